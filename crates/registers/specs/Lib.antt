@@ -1,1 +1,9 @@
 pub mod Table
+pub mod Record
+pub mod Load
+pub mod Geometry
+pub mod Setting
+pub mod Needed
+pub mod Check
+pub mod Colours
+pub mod Sound

@@ -73,3 +73,8 @@ refusal r = refused (numberOf r) (detailOf r)
 abbrev pub told : Answer → Told (Unit {0})
 told Done = given tt
 told (Refused r) = refusal r
+
+-- A second table is judged where the first gives what it was asked for.
+abbrev pub andThen : {A B : Type 0} → Told A → (A → Told B) → Told B
+andThen (given a) next = next a
+andThen (refused n d) next = refused n d

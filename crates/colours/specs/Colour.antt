@@ -1,0 +1,16 @@
+-- The colour that a logical pixel shows.
+use Prim.Native.Nat.{ℕ, _+_, _*_, _/_, _%_}
+use lib.Dec.{eqb}
+use Rattle.buffers.specs.Pick.{pick}
+use Rattle.registers.specs.Colours.{paletteOf}
+use Rattle.registers.specs.declared.record.Registers.{Registers}
+
+-- Depth 8: of the entry e bits 12, 10-8, 5, 4, 2-0 are shown; pixel bits 7, 6, 5, 4 become colour bits 11, 7, 6, 3.
+abbrev pub mixed : ℕ → ℕ → ℕ
+mixed e p =
+    e / 4096 % 2 * 4096 + p / 128 % 2 * 2048 + e / 256 % 8 * 256 + p / 64 % 2 * 128 + p / 32 % 2 * 64 + e / 16 % 4 * 16
+    + p / 16 % 2 * 8 + e % 8
+
+-- Depth 1, 2, 4: the palette entry of the logical pixel, in all 13 bits. Depth 8: the low nibble picks the entry.
+abbrev pub colourOf : Registers → ℕ → ℕ → ℕ
+colourOf g d p = pick (eqb d 8) (mixed (paletteOf g p) p) (paletteOf g p)

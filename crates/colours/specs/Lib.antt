@@ -1,0 +1,3 @@
+pub mod Colour
+pub mod Grey
+pub mod Pin

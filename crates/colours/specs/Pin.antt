@@ -1,0 +1,13 @@
+-- The sync pin's level for a code and the control data: 0 low, 1 high.
+use Prim.Native.Nat.{ℕ, _/_, _%_}
+use mathlib.Core.Bool.{Bool, _||_}
+use lib.Dec.{eqb}
+use Rattle.buffers.specs.Pick.{pick}
+
+-- Control bit 7.
+abbrev pub composite : ℕ → Bool
+composite control = eqb (control / 0x80 % 2) 1
+
+-- Without composite, low exactly for codes 2 and 3. With it, the XNOR of the two active-low syncs: low for 1 and 2.
+abbrev pub pinOf : ℕ → ℕ → ℕ
+pinOf code control = pick (composite control) (pick (eqb code 1 || eqb code 2) 0 1) (pick (eqb code 2 || eqb code 3) 0 1)

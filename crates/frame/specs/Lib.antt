@@ -1,0 +1,3 @@
+pub mod Pixel
+pub mod Cell
+pub mod Frame

@@ -1,0 +1,1 @@
+// The picture: every cell of the frame, by one rule.

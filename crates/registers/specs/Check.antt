@@ -1,0 +1,62 @@
+-- The setting's rules, 3 to 9 of the table, in the paper's words and order.
+use Prim.Native.Nat.{ℕ, _*_, _-_, _/_, _%_}
+use mathlib.Core.Bool.{Bool, _&&_, _||_, not}
+use mathlib.Core.List.{List, [], _∷_}
+use lib.Dec.{ltb, leb, eqb}
+use Rattle.registers.specs.Table.{Told, Row, row, judged}
+use Rattle.registers.specs.Geometry.{control, subPosition}
+use Rattle.registers.specs.Setting.{settingOf, displayOn, borderOn}
+use Rattle.registers.specs.Needed.{unwritten}
+use Rattle.registers.specs.declared.record.Registers.{Registers}
+use Rattle.registers.specs.declared.setting.Setting.{Setting}
+
+-- Control bit 14 or 15 set.
+abbrev pub testMode : Registers → Bool
+testMode g = not (eqb (control g / 0x4000 % 4) 0)
+
+-- Control bit 6 set.
+abbrev pub interlaced : Registers → Bool
+interlaced g = eqb (control g / 0x40 % 2) 1
+
+-- HS ≤ BS ≤ DS < DE ≤ BE ≤ N.
+abbrev pub horizontalRule : Setting → Bool
+horizontalRule s =
+    leb (s .hs .0) (s .bs .0) && leb (s .bs .0) (s .ds .0) && ltb (s .ds .0) (s .de .0) && leb (s .de .0) (s .be .0)
+    && leb (s .be .0) (s .n .0)
+
+-- VS ≤ VBS ≤ VDS < VDE ≤ VBE ≤ V.
+abbrev pub displayRule : Setting → Bool
+displayRule s =
+    leb (s .vs .0) (s .vbs .0) && leb (s .vbs .0) (s .vds .0) && ltb (s .vds .0) (s .vde .0) && leb (s .vde .0) (s .vbe .0)
+    && leb (s .vbe .0) (s .v .0)
+
+-- VS ≤ VBS < VBE ≤ V.
+abbrev pub borderRule : Setting → Bool
+borderRule s = leb (s .vs .0) (s .vbs .0) && ltb (s .vbs .0) (s .vbe .0) && leb (s .vbe .0) (s .v .0)
+
+-- VS ≤ V, and the display's rule, or display off and border off or right.
+abbrev pub verticalRule : Setting → Bool
+verticalRule s =
+    leb (s .vs .0) (s .v .0) && (displayRule s || (not (displayOn s) && (not (borderOn s) || borderRule s)))
+
+-- (DE-DS)·d is a multiple of 32.
+abbrev pub widthRule : Setting → Bool
+widthRule s = eqb ((s .de .0 - s .ds .0) * s .depth % 32) 0
+
+-- Where the cursor is on, its sub-position is 0 and VCE ≤ V.
+abbrev pub cursorRule : Registers → Setting → Bool
+cursorRule g s = not (s .cursor) || (eqb (subPosition g) 0 && leb (s .vce .0) (s .v .0))
+
+abbrev pub settingTable : Registers → List Row
+settingTable g =
+    row 3 (ltb (unwritten g) 64) (4 * unwritten g)
+    ∷ row 4 (testMode g) 0
+    ∷ row 5 (interlaced g) 0
+    ∷ row 6 (not (horizontalRule (settingOf g))) 0
+    ∷ row 7 (not (verticalRule (settingOf g))) 0
+    ∷ row 8 (not (widthRule (settingOf g))) 0
+    ∷ row 9 (not (cursorRule g (settingOf g))) 0
+    ∷ []
+
+unfoldable pub checkTold : Registers → Told Setting
+checkTold g = judged (settingTable g) (settingOf g)

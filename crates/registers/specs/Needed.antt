@@ -1,0 +1,35 @@
+-- Needed registers, and the lowest address among them that is unwritten.
+use Prim.Native.Nat.{ℕ, zero, suc, _*_}
+use mathlib.Core.Bool.{Bool, false, _&&_, _||_, not}
+use lib.ListN.{getD}
+use lib.Dec.{ltb, leb, eqb}
+use Rattle.buffers.specs.Pick.{pick}
+use Rattle.registers.specs.Record.{at, writtenAt}
+use Rattle.registers.specs.Geometry.{entriesInUse, cursorOn}
+use Rattle.registers.specs.declared.record.Registers.{Registers}
+
+-- A slot from that of the first address to that of the last.
+abbrev pub among : ℕ → ℕ → ℕ → Bool
+among first last slot = leb (at first) slot && leb slot (at last)
+
+-- The six of each direction, border, entries in use; HCSR and cursor palette if the cursor is on.
+abbrev pub neededUnder : Registers → ℕ → Bool
+neededUnder g slot =
+    ltb slot (entriesInUse g) || eqb slot (at 0x40) || among 0x80 0x94 slot || among 0xA0 0xB4 slot
+    || (cursorOn g && (eqb slot (at 0x98) || among 0x44 0x4C slot))
+
+-- Control is needed first: if it is unwritten, only E0H is reported.
+abbrev pub needed : Registers → ℕ → Bool
+needed g slot = eqb slot (at 0xE0) || (writtenAt g 0xE0 && neededUnder g slot)
+
+abbrev pub missing : Registers → ℕ → Bool
+missing g slot = needed g slot && not (getD (g .written) slot false)
+
+-- The lowest of n slots from k on that passes a test, or k + n where none does.
+unfoldable pub lowest : (ℕ → Bool) → ℕ → ℕ → ℕ
+lowest test zero k = k
+lowest test (suc n) k = pick (test k) k (lowest test n (suc k))
+
+-- The lowest slot that is needed and unwritten, or 64.
+unfoldable pub unwritten : Registers → ℕ
+unwritten g = lowest (missing g) 64 0

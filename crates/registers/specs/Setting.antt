@@ -1,0 +1,45 @@
+-- The setting that a record describes, in the paper's letters, and the words that its frame needs.
+use Prim.Native.Nat.{ℕ, _+_, _*_, _-_, _/_, _%_}
+use mathlib.Core.Bool.{Bool, true, false, _&&_, _||_, not}
+use lib.Dec.{ltb, leb, eqb}
+use Rattle.buffers.specs.Pick.{pick}
+use Rattle.registers.specs.Geometry.{pixelsAt, rastersAt, depthOf, displayOffset, cursorStart, cursorOn}
+use Rattle.registers.specs.declared.record.Registers.{Registers}
+use Rattle.registers.specs.declared.setting.Setting.{Setting}
+
+unfoldable pub settingOf : Registers → Setting
+settingOf g =
+    record {
+      n = pixelsAt g 0x80 2;
+      hs = pixelsAt g 0x84 2;
+      bs = pixelsAt g 0x88 1;
+      ds = pixelsAt g 0x8C (displayOffset g);
+      de = pixelsAt g 0x90 (displayOffset g);
+      be = pixelsAt g 0x94 1;
+      cx = cursorStart g;
+      v = rastersAt g 0xA0;
+      vs = rastersAt g 0xA4;
+      vbs = rastersAt g 0xA8;
+      vds = rastersAt g 0xAC;
+      vde = rastersAt g 0xB0;
+      vbe = rastersAt g 0xB4;
+      vcs = rastersAt g 0xB8;
+      vce = rastersAt g 0xBC;
+      depth = depthOf g;
+      cursor = cursorOn g;
+    }
+
+-- Vertical display is on if VDE > VDS, border if VBE > VBS.
+abbrev pub displayOn : Setting → Bool
+displayOn s = ltb (s .vds .0) (s .vde .0)
+
+abbrev pub borderOn : Setting → Bool
+borderOn s = ltb (s .vbs .0) (s .vbe .0)
+
+-- A frame needs (DE-DS)·(VDE-VDS)·d/32 video words, 0 if display is off,
+unfoldable pub videoWords : Setting → ℕ
+videoWords s = pick (displayOn s) ((s .de .0 - s .ds .0) * (s .vde .0 - s .vds .0) * s .depth / 32) 0
+
+-- and 2·(VCE-VCS) cursor words, 0 if the cursor is off.
+unfoldable pub cursorWords : Setting → ℕ
+cursorWords s = pick (s .cursor) (2 * (s .vce .0 - s .vcs .0)) 0
