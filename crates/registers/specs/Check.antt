@@ -3,12 +3,15 @@ use Prim.Native.Nat.{ℕ, _*_, _-_, _/_, _%_}
 use mathlib.Core.Bool.{Bool, _&&_, _||_, not}
 use mathlib.Core.List.{List, [], _∷_}
 use lib.Dec.{ltb, leb, eqb}
-use Rattle.registers.specs.Table.{Told, Row, row, judged}
+use Rattle.registers.specs.Table.{Told, given, Row, row, judged, refusal}
 use Rattle.registers.specs.Geometry.{control, subPosition}
 use Rattle.registers.specs.Setting.{settingOf, displayOn, borderOn}
-use Rattle.registers.specs.Needed.{unwritten}
+use Rattle.registers.specs.Lowest.{lowest, faultAt}
 use Rattle.registers.specs.declared.record.Registers.{Registers}
 use Rattle.registers.specs.declared.setting.Setting.{Setting}
+use Rattle.registers.specs.declared.lowest.Fault.the-variants.{Unwritten}
+use Rattle.registers.specs.declared.check.Checked.{Checked}
+use Rattle.registers.specs.declared.check.Checked.the-variants.{Accepted, Refused}
 
 -- Control bit 14 or 15 set.
 abbrev pub testMode : Registers → Bool
@@ -47,6 +50,10 @@ widthRule s = eqb ((s .de .0 - s .ds .0) * s .depth % 32) 0
 abbrev pub cursorRule : Registers → Setting → Bool
 cursorRule g s = not (s .cursor) || (eqb (subPosition g) 0 && leb (s .vce .0) (s .v .0))
 
+-- The lowest slot that is needed and unwritten, or 64.
+abbrev pub unwritten : Registers → ℕ
+unwritten g = lowest (faultAt g Unwritten) 64 0
+
 abbrev pub settingTable : Registers → List Row
 settingTable g =
     row 3 (ltb (unwritten g) 64) (4 * unwritten g)
@@ -60,3 +67,8 @@ settingTable g =
 
 unfoldable pub checkTold : Registers → Told Setting
 checkTold g = judged (settingTable g) (settingOf g)
+
+-- What an answer of `check` tells.
+abbrev pub checkSays : Checked → Told Setting
+checkSays (Accepted s) = given s
+checkSays (Refused r) = refusal r

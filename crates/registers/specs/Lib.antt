@@ -4,6 +4,8 @@ pub mod Load
 pub mod Geometry
 pub mod Setting
 pub mod Needed
+pub mod Stereo
+pub mod Lowest
 pub mod Check
 pub mod Colours
 pub mod Sound

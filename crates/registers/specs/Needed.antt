@@ -1,9 +1,8 @@
--- Needed registers, and the lowest address among them that is unwritten.
-use Prim.Native.Nat.{ℕ, zero, suc, _*_}
+-- Needed registers.
+use Prim.Native.Nat.{ℕ}
 use mathlib.Core.Bool.{Bool, false, _&&_, _||_, not}
 use lib.ListN.{getD}
 use lib.Dec.{ltb, leb, eqb}
-use Rattle.buffers.specs.Pick.{pick}
 use Rattle.registers.specs.Record.{at, writtenAt}
 use Rattle.registers.specs.Geometry.{entriesInUse, cursorOn}
 use Rattle.registers.specs.declared.record.Registers.{Registers}
@@ -24,12 +23,3 @@ needed g slot = eqb slot (at 0xE0) || (writtenAt g 0xE0 && neededUnder g slot)
 
 abbrev pub missing : Registers → ℕ → Bool
 missing g slot = needed g slot && not (getD (g .written) slot false)
-
--- The lowest of n slots from k on that passes a test, or k + n where none does.
-unfoldable pub lowest : (ℕ → Bool) → ℕ → ℕ → ℕ
-lowest test zero k = k
-lowest test (suc n) k = pick (test k) k (lowest test n (suc k))
-
--- The lowest slot that is needed and unwritten, or 64.
-unfoldable pub unwritten : Registers → ℕ
-unwritten g = lowest (missing g) 64 0

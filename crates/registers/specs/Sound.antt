@@ -1,42 +1,18 @@
 -- What sound asks of a record: C0H and all stereo registers, 3 then 10.
-use Prim.Native.Nat.{ℕ, _+_, _*_, _%_}
-use mathlib.Core.Bool.{Bool, false, _&&_, _||_, not}
+use Prim.Native.Nat.{ℕ, _*_}
 use mathlib.Core.List.{List, [], _∷_}
-use lib.ListN.{getD}
-use lib.Dec.{ltb, eqb}
+use lib.Dec.{ltb}
 use Rattle.registers.specs.Table.{Told, Row, row, judged}
-use Rattle.registers.specs.Record.{at}
-use Rattle.registers.specs.Needed.{among, lowest}
+use Rattle.registers.specs.Lowest.{lowest, faultAt}
 use Rattle.registers.specs.declared.record.Registers.{Registers}
+use Rattle.registers.specs.declared.lowest.Fault.the-variants.{SoundUnwritten, SoundWrong}
 
--- 60H is stereo 7, and 64H to 7CH are stereo 0 to 6.
-abbrev pub stereoSlot : ℕ → ℕ
-stereoSlot channel = at 0x60 + (channel + 1) % 8
+-- The lowest slot of each fault, or 64.
+abbrev pub soundUnwritten : Registers → ℕ
+soundUnwritten g = lowest (faultAt g SoundUnwritten) 64 0
 
--- A stereo value is bits 2-0.
-abbrev pub stereoOf : Registers → ℕ → ℕ
-stereoOf g channel = getD (g .values) (stereoSlot channel) 0 % 8
-
--- The sound frequency is bits 7-0.
-abbrev pub frequencyOf : Registers → ℕ
-frequencyOf g = getD (g .values) (at 0xC0) 0 % 256
-
-abbrev pub soundNeeds : ℕ → Bool
-soundNeeds slot = among 0x60 0x7C slot || eqb slot (at 0xC0)
-
-abbrev pub soundMissing : Registers → ℕ → Bool
-soundMissing g slot = soundNeeds slot && not (getD (g .written) slot false)
-
--- A stereo value 0, or a sound frequency below 3.
-abbrev pub soundWrong : Registers → ℕ → Bool
-soundWrong g slot =
-    (among 0x60 0x7C slot && eqb (getD (g .values) slot 0 % 8) 0) || (eqb slot (at 0xC0) && ltb (getD (g .values) slot 0 % 256) 3)
-
-unfoldable pub soundUnwritten : Registers → ℕ
-soundUnwritten g = lowest (soundMissing g) 64 0
-
-unfoldable pub soundFault : Registers → ℕ
-soundFault g = lowest (soundWrong g) 64 0
+abbrev pub soundFault : Registers → ℕ
+soundFault g = lowest (faultAt g SoundWrong) 64 0
 
 abbrev pub soundTable : Registers → List Row
 soundTable g =

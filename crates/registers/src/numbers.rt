@@ -1,6 +1,6 @@
 // Arithmetic that is safe for all numbers.
 ghost use mathlib.Core.Path.{_≡_};
-ghost use Prim.Native.Nat.{_-_, _*_, _/_};
+ghost use Prim.Native.Nat.{_-_, _*_, _/_, _%_};
 
 // a - b, or 0 where b is larger.
 pub fn past(a: u16, b: u16) -> u16
@@ -17,4 +17,11 @@ pub fn words_for(width: u16, rasters: u16, bits: u8) -> u64
     ensures { λ r. ⌜ r ≡ width * rasters * bits / 32 ⌝ }
 {
     (width as u64) * (rasters as u64) * (bits as u64) / 32
+}
+
+// The bits by which a raster of some width passes whole words.
+pub fn odd_bits(width: u16, bits: u8) -> u32
+    ensures { λ r. ⌜ r ≡ width * bits % 32 ⌝ }
+{
+    (width as u32) * (bits as u32) % 32
 }

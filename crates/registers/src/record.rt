@@ -17,7 +17,7 @@ pub struct Loaded {
 }
 
 // Whether no register has the address 4 · slot.
-fn is_reserved(slot: u32) -> bool
+pub fn is_reserved(slot: u32) -> bool
     ensures { λ r. ⌜ r ≡ reserved slot ⌝ }
 {
     ((20 <= slot) & (slot < 24)) | ((49 <= slot) & (slot < 56)) | (57 <= slot)

@@ -1,0 +1,12 @@
+use borrow.Author.Needs.{needs}
+use Rattle.registers.proofs.check.refused_if.Statement.{statement}
+use Rattle.registers.proofs.check.refused_if.Tie as tie
+
+returns : tie.Need-returns
+returns c = simp (c .if1 .taken)
+
+returns-2 : tie.Need-returns-2
+returns-2 c = search needs
+
+pub refused-if-spec : {M : Type 1} → statement M
+refused-if-spec = tie.close (tie.spec returns returns-2)

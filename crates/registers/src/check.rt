@@ -1,0 +1,121 @@
+// Judging a setting: refusals 3 to 9 in ascending order, or the accepted setting.
+use crate::lowest::Fault;
+use crate::lowest::lowest;
+use crate::numbers::odd_bits;
+use crate::numbers::past;
+use crate::record::Registers;
+use crate::refusal::Refusal;
+use crate::setting::Setting;
+ghost use mathlib.Core.Path.{_≡_};
+ghost use Rattle.buffers.specs.Pick.{pick};
+ghost use Rattle.registers.specs.Table.{refusal};
+ghost use Rattle.registers.specs.Check.{
+  checkSays,
+  horizontalRule,
+  displayRule,
+  borderRule,
+  verticalRule,
+  widthRule,
+  cursorRule,
+  testMode,
+  interlaced,
+  checkTold,
+};
+
+pub enum Checked {
+    Accepted(Setting),
+    Refused(Refusal),
+}
+
+// A refusal where the test holds, else what the rows after it answer.
+fn refused_if(wrong: bool, why: Refusal, rest: Checked) -> Checked
+    ensures { λ r. ⌜ checkSays r ≡ pick wrong (refusal why) (checkSays rest) ⌝ }
+{
+    if wrong {
+        return Checked::Refused(why);
+    }
+    rest
+}
+
+impl Setting {
+    // HS ≤ BS ≤ DS < DE ≤ BE ≤ N
+    fn is_horizontal_right(self) -> bool
+        ensures { λ r. ⌜ r ≡ horizontalRule self ⌝ }
+    {
+        (self.hs.0 <= self.bs.0)
+            & (self.bs.0 <= self.ds.0)
+            & (self.ds.0 < self.de.0)
+            & (self.de.0 <= self.be.0)
+            & (self.be.0 <= self.n.0)
+    }
+
+    // VS ≤ VBS ≤ VDS < VDE ≤ VBE ≤ V
+    fn is_display_right(self) -> bool
+        ensures { λ r. ⌜ r ≡ displayRule self ⌝ }
+    {
+        (self.vs.0 <= self.vbs.0)
+            & (self.vbs.0 <= self.vds.0)
+            & (self.vds.0 < self.vde.0)
+            & (self.vde.0 <= self.vbe.0)
+            & (self.vbe.0 <= self.v.0)
+    }
+
+    // VS ≤ VBS < VBE ≤ V
+    fn is_border_right(self) -> bool
+        ensures { λ r. ⌜ r ≡ borderRule self ⌝ }
+    {
+        (self.vs.0 <= self.vbs.0) & (self.vbs.0 < self.vbe.0) & (self.vbe.0 <= self.v.0)
+    }
+
+    fn is_vertical_right(self) -> bool
+        ensures { λ r. ⌜ r ≡ verticalRule self ⌝ }
+    {
+        (self.vs.0 <= self.v.0)
+            & (self.is_display_right()
+                | (!self.display_on() & (!self.border_on() | self.is_border_right())))
+    }
+
+    // (DE-DS)·d is a multiple of 32
+    fn is_width_right(self) -> bool
+        ensures { λ r. ⌜ r ≡ widthRule self ⌝ }
+    {
+        odd_bits(past(self.de.0, self.ds.0), self.depth) == 0
+    }
+}
+
+impl Registers {
+    fn is_cursor_right(self, s: Setting) -> bool
+        ensures { λ r. ⌜ r ≡ cursorRule self s ⌝ }
+    {
+        !s.cursor | ((self.sub_position() == 0) & (s.vce.0 <= s.v.0))
+    }
+
+    fn is_test_mode(self) -> bool
+        ensures { λ r. ⌜ r ≡ testMode self ⌝ }
+    {
+        self.control() / 0x4000 % 4 != 0
+    }
+
+    fn is_interlaced(self) -> bool
+        ensures { λ r. ⌜ r ≡ interlaced self ⌝ }
+    {
+        self.control() / 0x40 % 2 == 1
+    }
+
+    // The accepted setting, or the first refusal of 3 to 9. The rows are joined from the last to the first.
+    pub fn check(self) -> Checked
+        ensures { λ r. ⌜ checkSays r ≡ checkTold self ⌝ }
+    {
+        let s = self.setting();
+        let low = lowest(self, Fault::Unwritten);
+        let address = 4 * low as u32;
+        let end = Checked::Accepted(s);
+        let end = refused_if(!self.is_cursor_right(s), Refusal::Cursor, end);
+        let end = refused_if(!s.is_width_right(), Refusal::Width, end);
+        let end = refused_if(!s.is_vertical_right(), Refusal::Vertical, end);
+        let end = refused_if(!s.is_horizontal_right(), Refusal::Horizontal, end);
+        let end = refused_if(self.is_interlaced(), Refusal::Interlace, end);
+        let end = refused_if(self.is_test_mode(), Refusal::TestMode, end);
+        refused_if(low < Self::SLOTS, Refusal::Unwritten(address), end)
+    }
+}
