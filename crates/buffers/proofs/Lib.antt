@@ -1,1 +1,3 @@
+pub mod Coincide
 pub mod Product
+pub mod Tests

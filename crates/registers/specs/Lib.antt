@@ -9,3 +9,4 @@ pub mod Lowest
 pub mod Check
 pub mod Colours
 pub mod Sound
+pub mod Rules

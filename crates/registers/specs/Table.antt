@@ -1,5 +1,7 @@
 -- The table of refusals: how a table of tests answers, and the paper's number and detail of each case of `Refusal`.
 use Prim.Native.Nat.{ℕ}
+use mathlib.Core.Path.{_≡_}
+use mathlib.Core.Logic.{_⊎_}
 use mathlib.Core.Bool.{Bool, true, false}
 use mathlib.Core.List.{List, [], _∷_}
 use Rattle.buffers.specs.Pick.{pick}
@@ -78,3 +80,13 @@ told (Refused r) = refusal r
 abbrev pub andThen : {A B : Type 0} → Told A → (A → Told B) → Told B
 andThen (given a) next = next a
 andThen (refused n d) next = refused n d
+
+-- No row's test holds.
+abbrev pub Passes : List Row → Type 0
+Passes [] = Unit {0}
+Passes (r ∷ rs) = (r .when ≡ false) × Passes rs
+
+-- The number and the detail are those of the first row whose test holds.
+abbrev pub First : List Row → ℕ → ℕ → Type 0
+First [] n d = ⊥
+First (r ∷ rs) n d = ((r .when ≡ true) × (r .number ≡ n) × (r .detail ≡ d)) ⊎ ((r .when ≡ false) × First rs n d)
