@@ -1,3 +1,6 @@
 pub mod Lists
 pub mod First
 pub mod Tables
+pub mod Exactly
+pub mod Accepted
+pub mod Told

@@ -19,7 +19,7 @@ testMode g = not (eqb (control g / 0x4000 % 4) 0)
 
 -- Control bit 6 set.
 abbrev pub interlaced : Registers → Bool
-interlaced g = eqb (control g / 0x40 % 2) 1
+interlaced g = not (eqb (control g / 0x40 % 2) 0)
 
 -- HS ≤ BS ≤ DS < DE ≤ BE ≤ N.
 abbrev pub horizontalRule : Setting → Bool

@@ -99,7 +99,7 @@ impl Registers {
     fn is_interlaced(self) -> bool
         ensures { λ r. ⌜ r ≡ interlaced self ⌝ }
     {
-        self.control() / 0x40 % 2 == 1
+        self.control() / 0x40 % 2 != 0
     }
 
     // The accepted setting, or the first refusal of 3 to 9. The rows are joined from the last to the first.

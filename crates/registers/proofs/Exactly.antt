@@ -1,0 +1,182 @@
+-- A record is accepted exactly when every rule holds, and the refusal given is that of the first rule broken.
+use Prim.Native.Nat.{ℕ, _*_, _-_, _/_, _%_, _<_, _≤_}
+use mathlib.Core.Path.{_≡_, refl, sym, _∙_, ap}
+use mathlib.Core.Bool.{Bool, true, false, _&&_, _||_, not}
+use mathlib.Core.Logic.{_⊎_, inl, inr, _↔_}
+use native.Mathlib.Omega.{arith}
+use lib.Dec.{ltb, leb, eqb}
+use lib.ListN.{getD}
+use borrow.Author.Tests.{ltb-true, ltb-false, leb-true, eqb-true, not-true, not-false, lt-ltb, le-ltb, le-leb, eq-eqb}
+use Rattle.buffers.proofs.Tests.{and-split, and-join, or-split, or-left, or-right}
+use Rattle.registers.specs.Table.{given, refused, First}
+use Rattle.registers.specs.Geometry.{control, subPosition}
+use Rattle.registers.specs.Setting.{settingOf, displayOn, borderOn}
+use Rattle.registers.specs.Needed.{needed, missing}
+use Rattle.registers.specs.Lowest.{lowest, faultAt}
+use Rattle.registers.specs.Check.{testMode, interlaced, horizontalRule, displayRule, borderRule, verticalRule, widthRule, cursorRule, unwritten, settingTable, checkTold}
+use Rattle.registers.specs.Rules.{Horizontal, Displayed, Bordered, Vertical, EveryRule}
+use Rattle.registers.specs.declared.record.Registers.{Registers}
+use Rattle.registers.specs.declared.setting.Setting.{Setting}
+use Rattle.registers.specs.declared.lowest.Fault.the-variants.{Unwritten}
+use Rattle.registers.proofs.First.{lowest-most, lowest-passes, lowest-fails}
+use Rattle.registers.proofs.Tables.{passes-given, given-passes, refused-first, first-refused}
+
+not-of : {t : Bool} → t ≡ true → not t ≡ false
+not-of e = rw e
+
+not-off : {t : Bool} → t ≡ false → not t ≡ true
+not-off e = rw e
+
+module _ (s : Setting) where
+  pub horizontal-right : horizontalRule s ≡ true → Horizontal s
+  horizontal-right e =
+      let p = and-split _ _ e in
+      let q = and-split _ _ (p .0) in
+      let r = and-split _ _ (q .0) in
+      let t = and-split _ _ (r .0) in
+      record {
+        hs-bs = leb-true _ _ (t .0);
+        bs-ds = leb-true _ _ (t .1);
+        ds-de = ltb-true _ _ (r .1);
+        de-be = leb-true _ _ (q .1);
+        be-n = leb-true _ _ (p .1)
+      }
+
+  horizontal-tests : Horizontal s → horizontalRule s ≡ true
+  horizontal-tests h =
+      and-join (and-join (and-join (and-join (le-leb _ _ (h .hs-bs)) (le-leb _ _ (h .bs-ds))) (lt-ltb _ _ (h .ds-de))) (le-leb _ _ (h .de-be)))
+      (le-leb _ _ (h .be-n))
+
+  pub displayed-right : displayRule s ≡ true → Displayed s
+  displayed-right e =
+      let p = and-split _ _ e in
+      let q = and-split _ _ (p .0) in
+      let r = and-split _ _ (q .0) in
+      let t = and-split _ _ (r .0) in
+      record {
+        vs-vbs = leb-true _ _ (t .0);
+        vbs-vds = leb-true _ _ (t .1);
+        vds-vde = ltb-true _ _ (r .1);
+        vde-vbe = leb-true _ _ (q .1);
+        vbe-v = leb-true _ _ (p .1)
+      }
+
+  displayed-tests : Displayed s → displayRule s ≡ true
+  displayed-tests h =
+      and-join (and-join (and-join (and-join (le-leb _ _ (h .vs-vbs)) (le-leb _ _ (h .vbs-vds))) (lt-ltb _ _ (h .vds-vde))) (le-leb _ _ (h .vde-vbe)))
+      (le-leb _ _ (h .vbe-v))
+
+  bordered-right : borderRule s ≡ true → Bordered s
+  bordered-right e =
+      let p = and-split _ _ e in
+      let q = and-split _ _ (p .0) in
+      record { vs-vbs = leb-true _ _ (q .0); vbs-vbe = ltb-true _ _ (q .1); vbe-v = leb-true _ _ (p .1) }
+
+  bordered-tests : Bordered s → borderRule s ≡ true
+  bordered-tests h = and-join (and-join (le-leb _ _ (h .vs-vbs)) (lt-ltb _ _ (h .vbs-vbe))) (le-leb _ _ (h .vbe-v))
+
+  off-right : not (displayOn s) && (not (borderOn s) || borderRule s) ≡ true
+    → (s .vde .0 ≤ s .vds .0) × ((s .vbe .0 ≤ s .vbs .0) ⊎ Bordered s)
+  off-right e =
+      let p = and-split _ _ e in
+      (ltb-false _ _ (not-true _ (p .0)), go (or-split _ _ (p .1)))
+    where
+      go : (not (borderOn s) ≡ true) ⊎ (borderRule s ≡ true) → (s .vbe .0 ≤ s .vbs .0) ⊎ Bordered s
+      go (inl q) = inl (ltb-false _ _ (not-true _ q))
+      go (inr q) = inr (bordered-right q)
+
+  pub vertical-right : verticalRule s ≡ true → Vertical s
+  vertical-right e =
+      let p = and-split _ _ e in
+      (leb-true _ _ (p .0), go (or-split _ _ (p .1)))
+    where
+      go : (displayRule s ≡ true) ⊎ (not (displayOn s) && (not (borderOn s) || borderRule s) ≡ true)
+        → Displayed s ⊎ ((s .vde .0 ≤ s .vds .0) × ((s .vbe .0 ≤ s .vbs .0) ⊎ Bordered s))
+      go (inl q) = inl (displayed-right q)
+      go (inr q) = inr (off-right q)
+
+  vertical-tests : Vertical s → verticalRule s ≡ true
+  vertical-tests v = and-join (le-leb _ _ (v .0)) (go (v .1))
+    where
+      inner : (s .vbe .0 ≤ s .vbs .0) ⊎ Bordered s → not (borderOn s) || borderRule s ≡ true
+      inner (inl h) = or-left (borderRule s) (not-off (le-ltb _ _ h))
+      inner (inr h) = or-right (not (borderOn s)) (bordered-tests h)
+      go : Displayed s ⊎ ((s .vde .0 ≤ s .vds .0) × ((s .vbe .0 ≤ s .vbs .0) ⊎ Bordered s))
+        → displayRule s || (not (displayOn s) && (not (borderOn s) || borderRule s)) ≡ true
+      go (inl h) = or-left (not (displayOn s) && (not (borderOn s) || borderRule s)) (displayed-tests h)
+      go (inr h) = or-right (displayRule s) (and-join (not-off (le-ltb _ _ (h .0))) (inner (h .1)))
+
+module _ (g : Registers) where
+  -- row 3
+  all-written : ltb (unwritten g) 64 ≡ false → (slot : ℕ) → slot < 64 → needed g slot ≡ true → getD (g .written) slot false ≡ true
+  all-written e slot h n =
+      let low : 64 ≤ unwritten g = ltb-false _ _ e in
+      let f : missing g slot ≡ false = lowest-fails (faultAt g Unwritten) 64 0 slot (omega arith) (omega arith) in
+      not-false _ (sym (ap (λ (b : Bool). b && not (getD (g .written) slot false)) n) ∙ f)
+
+  none-missing : ((slot : ℕ) → slot < 64 → needed g slot ≡ true → getD (g .written) slot false ≡ true) → ltb (unwritten g) 64 ≡ false
+  none-missing all = go (ltb (unwritten g) 64) refl
+    where
+      go : (b : Bool) → ltb (unwritten g) 64 ≡ b → b ≡ false
+      go false e = refl
+      go true e =
+          let h : unwritten g < 64 = ltb-true _ _ e in
+          let m : missing g (unwritten g) ≡ true = lowest-passes (faultAt g Unwritten) 64 0 h in
+          let p = and-split (needed g (unwritten g)) (not (getD (g .written) (unwritten g) false)) m in
+          let w = all (unwritten g) h (p .0) in
+          cc (w, not-true (getD (g .written) (unwritten g) false) (p .1))
+
+  -- where the cursor's test is passed
+  cursor-right : cursorRule g (settingOf g) ≡ true → settingOf g .cursor ≡ true → (subPosition g ≡ 0) × (settingOf g .vce .0 ≤ settingOf g .v .0)
+  cursor-right e on = go (or-split (not (settingOf g .cursor)) _ e)
+    where
+      go : (not (settingOf g .cursor) ≡ true) ⊎ (eqb (subPosition g) 0 && leb (settingOf g .vce .0) (settingOf g .v .0) ≡ true)
+        → (subPosition g ≡ 0) × (settingOf g .vce .0 ≤ settingOf g .v .0)
+      go (inl q) = let z : _≡_ {A = ℕ} 0 1 = cc (not-true (settingOf g .cursor) q) in absurd (omega arith)
+      go (inr q) = let p = and-split _ _ q in (eqb-true _ _ (p .0), leb-true _ _ (p .1))
+
+  cursor-tests : (settingOf g .cursor ≡ true → (subPosition g ≡ 0) × (settingOf g .vce .0 ≤ settingOf g .v .0))
+    → cursorRule g (settingOf g) ≡ true
+  cursor-tests h = go (settingOf g .cursor) refl
+    where
+      go : (b : Bool) → settingOf g .cursor ≡ b → cursorRule g (settingOf g) ≡ true
+      go true e = or-right (not (settingOf g .cursor)) (and-join (eq-eqb _ _ (h e .0)) (le-leb _ _ (h e .1)))
+      go false e = or-left (eqb (subPosition g) 0 && leb (settingOf g .vce .0) (settingOf g .v .0)) (not-off e)
+
+  -- what an accepted record has
+  pub every-rule : (s : Setting) → checkTold g ≡ given s → EveryRule g
+  unfolding checkTold
+  every-rule s e =
+      let p = given-passes (settingOf g) (settingTable g) s e .0 in
+      record {
+        written = all-written (p .0);
+        test-mode = eqb-true _ _ (not-false _ (p .1 .0));
+        interlace = eqb-true _ _ (not-false _ (p .1 .1 .0));
+        horizontal = horizontal-right (settingOf g) (not-false _ (p .1 .1 .1 .0));
+        vertical = vertical-right (settingOf g) (not-false _ (p .1 .1 .1 .1 .0));
+        width = eqb-true _ _ (not-false _ (p .1 .1 .1 .1 .1 .0));
+        cursor = cursor-right (not-false _ (p .1 .1 .1 .1 .1 .1 .0))
+      }
+
+  pub accepted-setting : (s : Setting) → checkTold g ≡ given s → s ≡ settingOf g
+  unfolding checkTold
+  accepted-setting s e = sym (given-passes (settingOf g) (settingTable g) s e .1)
+
+  -- accepted exactly when every rule holds
+  pub exactly : (checkTold g ≡ given (settingOf g)) ↔ EveryRule g
+  unfolding checkTold
+  exactly =
+      (every-rule (settingOf g), λ h.
+        passes-given (settingOf g) (settingTable g)
+        (none-missing (h .written),
+        (not-of (eq-eqb _ _ (h .test-mode)),
+        (not-of (eq-eqb _ _ (h .interlace)),
+        (not-of (horizontal-tests (settingOf g) (h .horizontal)),
+        (not-of (vertical-tests (settingOf g) (h .vertical)),
+        (not-of (eq-eqb _ _ (h .width)),
+        (not-of (cursor-tests (h .cursor)), tt))))))))
+
+  -- and refused exactly with the first rule broken
+  pub first-broken : (n d : ℕ) → (checkTold g ≡ refused n d) ↔ First (settingTable g) n d
+  unfolding checkTold
+  first-broken n d = (refused-first (settingOf g) (settingTable g) n d, first-refused (settingOf g) (settingTable g) n d)
