@@ -4,3 +4,5 @@ pub mod Tables
 pub mod Exactly
 pub mod Accepted
 pub mod Told
+pub mod Unique
+pub mod Cases

@@ -10,3 +10,4 @@ pub mod Check
 pub mod Colours
 pub mod Sound
 pub mod Rules
+pub mod Small

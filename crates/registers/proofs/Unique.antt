@@ -1,0 +1,133 @@
+-- For each public call, any two answers that its contract permits are the same.
+use mathlib.Core.Path.{_≡_, sym, _∙_}
+use Rattle.buffers.proofs.Coincide.{OneAnswer}
+use Rattle.registers.specs.declared.record.Loaded.{Loaded}
+use Rattle.registers.proofs.Told.{same-answer, same-checked}
+use Rattle.registers.proofs.refusal.Refusal.number.Kinds as number-kinds
+use Rattle.registers.proofs.refusal.Refusal.number.Reads as number-reads
+use Rattle.registers.proofs.refusal.Refusal.detail.Kinds as detail-kinds
+use Rattle.registers.proofs.refusal.Refusal.detail.Reads as detail-reads
+use Rattle.registers.proofs.units.Pairs.pixels.Kinds as pixels-kinds
+use Rattle.registers.proofs.units.Pairs.pixels.Reads as pixels-reads
+use Rattle.registers.proofs.units.Rasters.of_value.Kinds as of-value-kinds
+use Rattle.registers.proofs.units.Rasters.of_value.Reads as of-value-reads
+use Rattle.registers.proofs.record.is_reserved.Kinds as is-reserved-kinds
+use Rattle.registers.proofs.record.is_reserved.Reads as is-reserved-reads
+use Rattle.registers.proofs.record.Registers.new.Kinds as new-kinds
+use Rattle.registers.proofs.record.Registers.new.Reads as new-reads
+use Rattle.registers.proofs.record.Registers.store.Kinds as store-kinds
+use Rattle.registers.proofs.record.Registers.store.Reads as store-reads
+use Rattle.registers.proofs.record.Registers.palette.Kinds as palette-kinds
+use Rattle.registers.proofs.record.Registers.palette.Reads as palette-reads
+use Rattle.registers.proofs.record.Registers.border.Kinds as border-kinds
+use Rattle.registers.proofs.record.Registers.border.Reads as border-reads
+use Rattle.registers.proofs.record.Registers.cursor_colour.Kinds as cursor-colour-kinds
+use Rattle.registers.proofs.record.Registers.cursor_colour.Reads as cursor-colour-reads
+use Rattle.registers.proofs.setting.Setting.display_on.Kinds as display-on-kinds
+use Rattle.registers.proofs.setting.Setting.display_on.Reads as display-on-reads
+use Rattle.registers.proofs.setting.Setting.border_on.Kinds as border-on-kinds
+use Rattle.registers.proofs.setting.Setting.border_on.Reads as border-on-reads
+use Rattle.registers.proofs.setting.Setting.video_words.Kinds as video-words-kinds
+use Rattle.registers.proofs.setting.Setting.video_words.Reads as video-words-reads
+use Rattle.registers.proofs.setting.Setting.cursor_words.Kinds as cursor-words-kinds
+use Rattle.registers.proofs.setting.Setting.cursor_words.Reads as cursor-words-reads
+use Rattle.registers.proofs.record.Registers.control.Kinds as control-kinds
+use Rattle.registers.proofs.record.Registers.control.Reads as control-reads
+use Rattle.registers.proofs.record.Registers.entries_in_use.Kinds as entries-in-use-kinds
+use Rattle.registers.proofs.record.Registers.entries_in_use.Reads as entries-in-use-reads
+use Rattle.registers.proofs.record.Registers.sub_position.Kinds as sub-position-kinds
+use Rattle.registers.proofs.record.Registers.sub_position.Reads as sub-position-reads
+use Rattle.registers.proofs.record.Registers.cursor_on.Kinds as cursor-on-kinds
+use Rattle.registers.proofs.record.Registers.cursor_on.Reads as cursor-on-reads
+use Rattle.registers.proofs.record.Registers.setting.Kinds as setting-kinds
+use Rattle.registers.proofs.record.Registers.setting.Reads as setting-reads
+use Rattle.registers.proofs.record.Registers.stereo.Kinds as stereo-kinds
+use Rattle.registers.proofs.record.Registers.stereo.Reads as stereo-reads
+use Rattle.registers.proofs.record.Registers.sound_frequency.Kinds as sound-frequency-kinds
+use Rattle.registers.proofs.record.Registers.sound_frequency.Reads as sound-frequency-reads
+use Rattle.registers.proofs.record.Registers.load_word.Kinds as load-word-kinds
+use Rattle.registers.proofs.record.Registers.load_word.Reads as load-word-reads
+use Rattle.registers.proofs.record.Registers.load.Kinds as load-kinds
+use Rattle.registers.proofs.record.Registers.load.Reads as load-reads
+use Rattle.registers.proofs.record.Registers.check.Kinds as check-kinds
+use Rattle.registers.proofs.record.Registers.check.Reads as check-reads
+use Rattle.registers.proofs.record.Registers.check_sound.Kinds as check-sound-kinds
+use Rattle.registers.proofs.record.Registers.check_sound.Reads as check-sound-reads
+
+same-loaded : (x y : Loaded) → x .answer ≡ y .answer → x .registers ≡ y .registers → x ≡ y
+same-loaded x y a r = λ i. record { registers = r i; answer = a i }
+
+pub one-number : OneAnswer 0 number-kinds.ps number-kinds.r number-reads.Post
+one-number κs a x y s t p q = p ∙ sym q
+
+pub one-detail : OneAnswer 0 detail-kinds.ps detail-kinds.r detail-reads.Post
+one-detail κs a x y s t p q = p ∙ sym q
+
+pub one-pixels : OneAnswer 0 pixels-kinds.ps pixels-kinds.r pixels-reads.Post
+one-pixels κs a x y s t p q = p ∙ sym q
+
+pub one-of-value : OneAnswer 0 of-value-kinds.ps of-value-kinds.r of-value-reads.Post
+one-of-value κs a x y s t p q = p ∙ sym q
+
+pub one-is-reserved : OneAnswer 0 is-reserved-kinds.ps is-reserved-kinds.r is-reserved-reads.Post
+one-is-reserved κs a x y s t p q = p ∙ sym q
+
+pub one-new : OneAnswer 0 new-kinds.ps new-kinds.r new-reads.Post
+one-new κs a x y s t p q = p ∙ sym q
+
+pub one-store : OneAnswer 0 store-kinds.ps store-kinds.r store-reads.Post
+one-store κs a x y s t p q = p ∙ sym q
+
+pub one-palette : OneAnswer 0 palette-kinds.ps palette-kinds.r palette-reads.Post
+one-palette κs a x y s t p q = p ∙ sym q
+
+pub one-border : OneAnswer 0 border-kinds.ps border-kinds.r border-reads.Post
+one-border κs a x y s t p q = p ∙ sym q
+
+pub one-cursor-colour : OneAnswer 0 cursor-colour-kinds.ps cursor-colour-kinds.r cursor-colour-reads.Post
+one-cursor-colour κs a x y s t p q = p ∙ sym q
+
+pub one-display-on : OneAnswer 0 display-on-kinds.ps display-on-kinds.r display-on-reads.Post
+one-display-on κs a x y s t p q = p ∙ sym q
+
+pub one-border-on : OneAnswer 0 border-on-kinds.ps border-on-kinds.r border-on-reads.Post
+one-border-on κs a x y s t p q = p ∙ sym q
+
+pub one-video-words : OneAnswer 0 video-words-kinds.ps video-words-kinds.r video-words-reads.Post
+one-video-words κs a x y s t p q = p ∙ sym q
+
+pub one-cursor-words : OneAnswer 0 cursor-words-kinds.ps cursor-words-kinds.r cursor-words-reads.Post
+one-cursor-words κs a x y s t p q = p ∙ sym q
+
+pub one-control : OneAnswer 0 control-kinds.ps control-kinds.r control-reads.Post
+one-control κs a x y s t p q = p ∙ sym q
+
+pub one-entries-in-use : OneAnswer 0 entries-in-use-kinds.ps entries-in-use-kinds.r entries-in-use-reads.Post
+one-entries-in-use κs a x y s t p q = p ∙ sym q
+
+pub one-sub-position : OneAnswer 0 sub-position-kinds.ps sub-position-kinds.r sub-position-reads.Post
+one-sub-position κs a x y s t p q = p ∙ sym q
+
+pub one-cursor-on : OneAnswer 0 cursor-on-kinds.ps cursor-on-kinds.r cursor-on-reads.Post
+one-cursor-on κs a x y s t p q = p ∙ sym q
+
+pub one-setting : OneAnswer 0 setting-kinds.ps setting-kinds.r setting-reads.Post
+one-setting κs a x y s t p q = p ∙ sym q
+
+pub one-stereo : OneAnswer 0 stereo-kinds.ps stereo-kinds.r stereo-reads.Post
+one-stereo κs a x y s t p q = p ∙ sym q
+
+pub one-sound-frequency : OneAnswer 0 sound-frequency-kinds.ps sound-frequency-kinds.r sound-frequency-reads.Post
+one-sound-frequency κs a x y s t p q = p ∙ sym q
+
+pub one-load-word : OneAnswer 0 load-word-kinds.ps load-word-kinds.r load-word-reads.Post
+one-load-word κs a x y s t p q = same-loaded x y (same-answer (x .answer) (y .answer) (p .0 ∙ sym (q .0))) (p .1 ∙ sym (q .1))
+
+pub one-load : OneAnswer 1 load-kinds.ps load-kinds.r load-reads.Post
+one-load κs a x y s t p q = same-loaded x y (same-answer (x .answer) (y .answer) (p .0 ∙ sym (q .0))) (p .1 ∙ sym (q .1))
+
+pub one-check : OneAnswer 0 check-kinds.ps check-kinds.r check-reads.Post
+one-check κs a x y s t p q = same-checked x y (p ∙ sym q)
+
+pub one-check-sound : OneAnswer 0 check-sound-kinds.ps check-sound-kinds.r check-sound-reads.Post
+one-check-sound κs a x y s t p q = same-answer x y (p ∙ sym q)
