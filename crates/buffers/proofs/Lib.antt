@@ -1,3 +1,5 @@
 pub mod Coincide
 pub mod Product
+pub mod Sets
+pub mod Words
 pub mod Tests
