@@ -1,3 +1,4 @@
 pub mod Turns
 pub mod Rule
 pub mod Calls
+pub mod Plates

@@ -18,10 +18,12 @@ module _ (bytes : List ℕ) (count : ℕ) (fits : 4 * count ≤ length bytes) wh
   copied-at : (k : ℕ) → k < count → getD (wordsOf (take (4 * count) bytes)) k 0 ≡ wordAt bytes (4 * k)
   copied-at k h =
       words-at (take (4 * count) bytes) k (omega (arith, length-take-le (4 * count) bytes fits))
-      ∙ rw (getD-take (4 * count) bytes (4 * k) 0 (omega arith),
+      ∙ rw (
+        getD-take (4 * count) bytes (4 * k) 0 (omega arith),
         getD-take (4 * count) bytes (4 * k + 1) 0 (omega arith),
         getD-take (4 * count) bytes (4 * k + 2) 0 (omega arith),
-        getD-take (4 * count) bytes (4 * k + 3) 0 (omega arith))
+        getD-take (4 * count) bytes (4 * k + 3) 0 (omega arith),
+      )
 
   pub copy-turn :
       (l : List ℕ) (k v : ℕ) → k < count → v ≡ wordAt bytes (4 * k)

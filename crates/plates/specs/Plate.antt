@@ -42,11 +42,16 @@ sectionsBy r v c s =
 abbrev pub sectionsOf : List ℕ → Sections
 sectionsOf file = sectionsBy (rOf file) (vOf file) (cOf file) (sOf file)
 
--- The plate of four lists: its words, the trailer last, as bytes.
+-- The trailer of four lists: S is the last list's length, and each distance before it that much more.
 abbrev pub trailerOf : List ℕ → List ℕ → List ℕ → List ℕ → List ℕ
 trailerOf rs vs cs ss =
-    (length rs + length vs + length cs + length ss) ∷ (length vs + length cs + length ss) ∷ (length cs + length ss) ∷ length ss ∷ []
+    (length rs + (length vs + (length cs + length ss)))
+    ∷ (length vs + (length cs + length ss))
+    ∷ (length cs + length ss)
+    ∷ length ss
+    ∷ []
 
+-- The plate of four lists: its words, the trailer last, as bytes.
 unfoldable pub plateOf : List ℕ → List ℕ → List ℕ → List ℕ → List ℕ
 plateOf rs vs cs ss = bytesOf (rs ++ vs ++ cs ++ ss ++ trailerOf rs vs cs ss)
 

@@ -11,7 +11,7 @@ ghost use Prim.Native.Nat.{_≤_};
 ghost use lib.ListN.{length};
 ghost use lib.Seq.{sets};
 ghost use Rattle.registers.specs.Table.{told, unlessRefused};
-ghost use Rattle.plates.specs.Plate.{plateOf, plateLength, sectionsBy};
+ghost use Rattle.plates.specs.Plate.{mostBytes, plateOf, plateLength, sectionsBy};
 ghost use Rattle.plates.specs.Read.{toldRead, trailerTold, readTold, copyTold, copied};
 ghost use Rattle.plates.specs.Write.{toldWritten, writeTold};
 
@@ -107,4 +107,61 @@ pub fn copy_out(file: &[u8], out: &mut [u32]) -> Answer
             Answer::Done
         }
     }
+}
+
+// The plate of four lists, stored from the first byte on.
+fn put_plate(registers: &[u32], video: &[u32], cursor: &[u32], sound: &[u32], out: &mut [u8])
+    requires { ⌜
+        (plateLength (now registers) (now video) (now cursor) (now sound) ≤ mostBytes)
+        × (plateLength (now registers) (now video) (now cursor) (now sound) ≤ length (now out))
+        ⌝ }
+    ensures { λ _. ⌜
+        now (out .exit) ≡ sets (now (out .entry)) 0
+        (plateOf (now (registers .entry)) (now (video .entry)) (now (cursor .entry)) (now (sound .entry)))
+        ⌝ }
+{
+    let s = sound.len();
+    let c = cursor.len() + s;
+    let v = video.len() + c;
+    let r = registers.len() + v;
+    let trailer = [r as u32, v as u32, c as u32, s as u32];
+    put_words(out, 0, registers);
+    put_words(out, 4 * (r - v), video);
+    put_words(out, 4 * (r - c), cursor);
+    put_words(out, 4 * (r - s), sound);
+    put_words(out, 4 * r, &trailer);
+}
+
+// A plate written from its four lists: its length in bytes; or 15, then 13.
+pub fn write(
+    registers: &[u32],
+    video: &[u32],
+    cursor: &[u32],
+    sound: &[u32],
+    out: &mut [u8],
+) -> Writing
+    ensures { λ r. ⌜
+        (toldWritten r
+        ≡ writeTold (now (registers .entry)) (now (video .entry)) (now (cursor .entry)) (now (sound .entry)) (length (now (out .entry))))
+        × (now (out .exit)
+        ≡ unlessRefused
+        (writeTold (now (registers .entry)) (now (video .entry)) (now (cursor .entry)) (now (sound .entry)) (length (now (out .entry))))
+        (now (out .entry))
+        (sets (now (out .entry)) 0
+        (plateOf (now (registers .entry)) (now (video .entry)) (now (cursor .entry)) (now (sound .entry)))))
+        ⌝ }
+{
+    let r = registers.len();
+    let v = video.len();
+    let c = cursor.len();
+    let s = sound.len();
+    if MOST_WORDS < r + v + c + s {
+        return Writing::Refused(Refusal::TooLarge);
+    }
+    let n = 4 * (r + v + c + s) + 16;
+    if out.len() < n {
+        return Writing::Refused(Refusal::Short);
+    }
+    put_plate(registers, video, cursor, sound, out);
+    Writing::Bytes(n)
 }

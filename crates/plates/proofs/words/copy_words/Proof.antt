@@ -51,10 +51,11 @@ loop-less c = search needs
 -- src/words.rt:29:5
 loop-again : tie.Need-loop-again Inv-loop μ-loop
 loop-again c = let s = c .before .before .before .before .before in
-    let l = c .before .before .loop in
-    (search needs,
+    let l = c .before .before .loop in (
+      search needs,
       simp length-set (l .inv .1),
-      l .inv .2 ∙ copy-turn (s .args .bytes .now) (s .args .count) (s .pre .0) (l .out) (l .k) (c .word-at .result) (search needs) (c .word-at .ensures))
+      l .inv .2 ∙ copy-turn (s .args .bytes .now) (s .args .count) (s .pre .0) (l .out) (l .k) (c .word-at .result) (search needs) (c .word-at .ensures),
+    )
 
 -- src/words.rt:24:1
 same-length : tie.Need-same-length Inv-loop μ-loop

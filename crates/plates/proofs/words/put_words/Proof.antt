@@ -56,10 +56,11 @@ loop-less c = search needs
 -- src/words.rt:52:5
 loop-again : tie.Need-loop-again Inv-loop μ-loop
 loop-again c = let s = c .before .before .before .before .before .before .before .before .before in
-    let l = c .before .before .before .before .before .before .loop in
-    (search needs,
+    let l = c .before .before .before .before .before .before .loop in (
       search needs,
-      l .inv .2 ∙ put-turn (s .args .words .now) (l .out) _ (s .args .at) (l .k) (search needs) (c .before .before .put-word .ensures))
+      search needs,
+      l .inv .2 ∙ put-turn (s .args .words .now) (l .out) _ (s .args .at) (l .k) (search needs) (c .before .before .put-word .ensures),
+    )
 
 -- src/words.rt:47:1
 same-length : tie.Need-same-length Inv-loop μ-loop
