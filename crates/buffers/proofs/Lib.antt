@@ -3,3 +3,4 @@ pub mod Product
 pub mod Sets
 pub mod Words
 pub mod Tests
+pub mod Table

@@ -13,6 +13,20 @@ use Rattle.buffers.specs.Words.{word, wordAt, wordsOf, bytesOf}
 abbrev pub Below : ℕ → List ℕ → Type 0
 Below n l = (i : ℕ) → getD l i 0 < n
 
+pub below-append : (n : ℕ) (xs ys : List ℕ) → Below n xs → Below n ys → Below n (xs ++ ys)
+below-append n [] ys p q i = q i
+below-append n (x ∷ xs) ys p q zero = p 0
+below-append n (x ∷ xs) ys p q (suc i) = below-append n xs ys (λ j. p (suc j)) q i
+
+pub below-take : (n k : ℕ) (l : List ℕ) → 0 < n → Below n l → Below n (take k l)
+below-take n zero l z h i = z
+below-take n (suc k) [] z h i = z
+below-take n (suc k) (x ∷ l) z h zero = h 0
+below-take n (suc k) (x ∷ l) z h (suc i) = below-take n k l z (λ j. h (suc j)) i
+
+pub below-drop : (n k : ℕ) (l : List ℕ) → Below n l → Below n (drop k l)
+below-drop n k l h i = rw getD-drop (h (k + i))
+
 pub length-bytes : (ws : List ℕ) → length (bytesOf ws) ≡ 4 * length ws
 unfolding bytesOf
 length-bytes [] = refl

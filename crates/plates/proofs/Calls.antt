@@ -6,10 +6,11 @@ use Prim.Native.Nat.{ℕ, _+_, _*_, _≤_, _<_}
 use native.Mathlib.Omega.{arith}
 use lib.ListN.{length, take}
 use lib.Seq.{sets}
-use borrow.Author.Tests.{lt-ltb, le-ltb}
+use lib.Dec.{leb}
+use borrow.Author.Tests.{lt-ltb, le-ltb, leb-true}
 use Rattle.buffers.specs.Pick.{pick}
 use Rattle.buffers.specs.Words.{wordsOf}
-use Rattle.buffers.proofs.Tests.{and-right}
+use Rattle.buffers.proofs.Tests.{and-left, and-right}
 use Rattle.registers.specs.Table.{Told, given, refused, unlessRefused}
 use Rattle.plates.specs.Plate.{mostBytes, lengthRule, trailerRule, right, rOf, vOf, cOf, sOf, sectionsOf}
 use Rattle.plates.specs.Read.{trailerTold, readTold, copyTold, copied}
@@ -39,6 +40,11 @@ right-given file sections e = let b = of-given (right file) 14 sections (section
 
 pub right-ordered : (file : List ℕ) → right file ≡ true → Ordered (length file) (rOf file) (vOf file) (cOf file) (sOf file)
 right-ordered file e = ordered _ _ _ _ _ (and-right (lengthRule (length file)) (trailerRule (length file) (rOf file) (vOf file) (cOf file) (sOf file)) e)
+
+pub right-short : (file : List ℕ) → right file ≡ true → length file ≤ mostBytes
+right-short file e =
+    leb-true (length file) mostBytes
+    (and-right (leb 16 (length file)) (leb (length file) mostBytes) (and-left (lengthRule (length file)) (trailerRule (length file) (rOf file) (vOf file) (cOf file) (sOf file)) e))
 
 module _ (file : List ℕ) (sections : Sections) (e : given sections ≡ readTold file) where
   pub copy-fits : 4 * sections .r ≤ length file
