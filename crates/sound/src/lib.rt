@@ -1,0 +1,2 @@
+// Sound: signed sixths, left then right, of each byte of a list of words.
+mod amplitude;
