@@ -78,3 +78,7 @@ module _ (byte : ℕ) (h : byte < 256) where
 
     pub product-is : toZ w16 (ofZ w16 (toZ w16 (ofZ w16 m) *ℤ toZ w16 sixths)) ≡ valueOf byte sixths
     product-is = toZ-ofZ product-fits ∙ product
+
+-- a value stored is itself
+pub stored : (byte sixths : ℕ) (z : ℤ) → byte < 256 → sixths ≤ 7 → z ≡ valueOf byte sixths → toZ w16 (ofZ w16 z) ≡ valueOf byte sixths
+stored byte sixths z h k e = ap (λ (y : ℤ). toZ w16 (ofZ w16 y)) e ∙ toZ-ofZ (value-fits byte h sixths k (signedOf byte) refl)
