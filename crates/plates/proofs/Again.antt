@@ -10,7 +10,6 @@ use lib.Seq.{sets, length-sets, drop-length, sets-eq, slice, length-slice, lengt
 use lib.Dec.{leb}
 use borrow.Author.Tests.{leb-true}
 use Rattle.buffers.specs.Words.{wordAt, wordsOf, bytesOf}
-use Rattle.buffers.proofs.Tests.{and-left, and-right}
 use Rattle.buffers.proofs.Words.{Below, below-take, below-drop, bytes-append, bytes-back, length-words, words-cons}
 use Rattle.plates.specs.Plate.{mostBytes, lengthRule, trailerRule, right, rOf, vOf, cOf, sOf, trailerOf, plateOf, plateLength}
 use Rattle.plates.specs.Read.{copied}

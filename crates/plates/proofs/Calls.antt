@@ -10,7 +10,7 @@ use lib.Dec.{leb}
 use borrow.Author.Tests.{lt-ltb, le-ltb, leb-true}
 use Rattle.buffers.specs.Pick.{pick}
 use Rattle.buffers.specs.Words.{wordsOf}
-use Rattle.buffers.proofs.Tests.{and-left, and-right}
+use Rattle.buffers.proofs.Tests.{and-split}
 use Rattle.registers.specs.Table.{Told, given, refused, unlessRefused}
 use Rattle.plates.specs.Plate.{mostBytes, lengthRule, trailerRule, right, rOf, vOf, cOf, sOf, sectionsOf}
 use Rattle.plates.specs.Read.{trailerTold, readTold, copyTold, copied}
@@ -38,13 +38,16 @@ pub right-given : (file : List ℕ) (sections : Sections) → given sections ≡
 unfolding readTold
 right-given file sections e = let b = of-given (right file) 14 sections (sectionsOf file) e in record { is-right = b .0; are = b .1 }
 
+halves :
+    (file : List ℕ) → right file ≡ true
+    → (lengthRule (length file) ≡ true) × (trailerRule (length file) (rOf file) (vOf file) (cOf file) (sOf file) ≡ true)
+halves file e = and-split (lengthRule (length file)) (trailerRule (length file) (rOf file) (vOf file) (cOf file) (sOf file)) e
+
 pub right-ordered : (file : List ℕ) → right file ≡ true → Ordered (length file) (rOf file) (vOf file) (cOf file) (sOf file)
-right-ordered file e = ordered _ _ _ _ _ (and-right (lengthRule (length file)) (trailerRule (length file) (rOf file) (vOf file) (cOf file) (sOf file)) e)
+right-ordered file e = ordered _ _ _ _ _ (halves file e .1)
 
 pub right-short : (file : List ℕ) → right file ≡ true → length file ≤ mostBytes
-right-short file e =
-    leb-true (length file) mostBytes
-    (and-right (leb 16 (length file)) (leb (length file) mostBytes) (and-left (lengthRule (length file)) (trailerRule (length file) (rOf file) (vOf file) (cOf file) (sOf file)) e))
+right-short file e = leb-true (length file) mostBytes (and-split (leb 16 (length file)) (leb (length file) mostBytes) (halves file e .0) .1)
 
 module _ (file : List ℕ) (sections : Sections) (e : given sections ≡ readTold file) where
   pub copy-fits : 4 * sections .r ≤ length file

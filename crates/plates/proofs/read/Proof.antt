@@ -1,5 +1,5 @@
 use Rattle.plates.proofs.Calls.{read-right, read-wrong}
-use Rattle.buffers.proofs.Tests.{and-left}
+use Rattle.buffers.proofs.Tests.{and-split}
 use borrow.Author.Tests.{leb-true}
 use lib.ListN.{length}
 use Rattle.plates.proofs.read.Statement.{statement}
@@ -10,7 +10,7 @@ use Rattle.plates.proofs.read_trailer.Reads as read-trailer-reads
 
 -- src/lib.rt:90:9
 read-trailer-requires : tie.Need-read-trailer-requires
-read-trailer-requires c κs = leb-true 16 (length (c .before .before .args .file .now)) (and-left _ _ (c .if1 .taken))
+read-trailer-requires c κs = leb-true 16 (length (c .before .before .args .file .now)) (and-split _ _ (c .if1 .taken) .0)
 
 -- src/lib.rt:90:9
 returns : tie.Need-returns
