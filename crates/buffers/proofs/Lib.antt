@@ -1,3 +1,6 @@
 pub mod Coincide
 pub mod Product
+pub mod Sets
+pub mod Words
 pub mod Tests
+pub mod Table

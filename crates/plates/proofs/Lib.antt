@@ -1,0 +1,7 @@
+pub mod Turns
+pub mod Rule
+pub mod Calls
+pub mod Plates
+pub mod Written
+pub mod Again
+pub mod RoundTrip

@@ -1,0 +1,3 @@
+pub mod Plate
+pub mod Read
+pub mod Write

@@ -1,0 +1,19 @@
+-- Writing a plate of four lists: 15, then 13; the length written is given.
+use Prim.Native.Nat.{ℕ}
+use mathlib.Core.List.{List, [], _∷_}
+use lib.Dec.{ltb}
+use Rattle.registers.specs.Table.{Told, Row, row, judged, given, refusal}
+use Rattle.plates.specs.Plate.{mostBytes, plateLength}
+use Rattle.plates.specs.declared.Writing.{Writing}
+use Rattle.plates.specs.declared.Writing.the-variants.{Bytes, Refused}
+
+-- An answer as the paper has it.
+abbrev pub toldWritten : Writing → Told ℕ
+toldWritten (Bytes n) = given n
+toldWritten (Refused why) = refusal why
+
+-- Writing into a list of some bytes.
+unfoldable pub writeTold : List ℕ → List ℕ → List ℕ → List ℕ → ℕ → Told ℕ
+writeTold rs vs cs ss places =
+    judged (row 15 (ltb mostBytes (plateLength rs vs cs ss)) 0 ∷ row 13 (ltb places (plateLength rs vs cs ss)) 0 ∷ [])
+    (plateLength rs vs cs ss)

@@ -1,0 +1,3 @@
+pub mod Amplitudes
+pub mod Signed
+pub mod Turns

@@ -1,0 +1,80 @@
+use Rattle.sound.specs.Values.{channelOf, inTable}
+use Rattle.sound.proofs.Turns.{byte-put}
+use Rattle.sound.proofs.Signed.{stored}
+use lib.ListN.{length-set}
+use native.Mathlib.Omega.{arith}
+use borrow.Author.Needs.{needs}
+use Rattle.sound.proofs.values.put_byte.Statement.{statement}
+use Rattle.sound.proofs.values.put_byte.Tie as tie
+use Rattle.sound.proofs.values.put_byte.Reads as reads
+use Rattle.sound.proofs.values.put_byte.Lts as lts
+use Rattle.sound.proofs.amplitude.value.Reads as value-reads
+
+-- src/values.rt:22:19
+cast-channel : tie.Need-cast-channel
+cast-channel c = search needs
+
+-- src/values.rt:23:27
+element-copy-out-value : tie.Need-element-copy-out-value
+element-copy-out-value c = search needs
+
+-- src/values.rt:23:15
+value-requires : tie.Need-value-requires
+value-requires c κs = c .before .pre .1 _
+
+-- src/values.rt:23:5
+mul-out : tie.Need-mul-out
+mul-out c = search needs
+
+-- src/values.rt:23:5
+slice-set-from-out : tie.Need-slice-set-from-out
+slice-set-from-out c = search needs
+
+-- src/values.rt:24:31
+element-copy-out-value-2 : tie.Need-element-copy-out-value-2
+element-copy-out-value-2 c = search needs
+
+-- src/values.rt:24:19
+value-requires-2 : tie.Need-value-requires-2
+value-requires-2 c κs = c .before .before .before .pre .2 _
+
+-- src/values.rt:24:9
+add-t13 : tie.Need-add-t13
+add-t13 c = search needs
+
+-- src/values.rt:24:5
+mul-t17 : tie.Need-mul-t17
+mul-t17 c = search needs
+
+-- src/values.rt:24:5
+slice-set-from-out-2 : tie.Need-slice-set-from-out-2
+slice-set-from-out-2 c = simp length-set (omega arith)
+
+-- src/values.rt:13:1
+same-length : tie.Need-same-length
+same-length c = search needs
+
+-- src/values.rt:13:1
+returns : tie.Need-returns
+returns c = let a = c .before .before .before .before .args in
+    let p = c .before .before .before .before .pre in
+    byte-put (inTable (a .lefts .now)) (inTable (a .rights .now)) (a .out .now) (a .at) (a .byte) (a .counter) _ _
+    (stored (a .byte) _ _ (search needs) (p .1 (channelOf (a .counter))) (c .before .before .value .ensures))
+    (stored (a .byte) _ _ (search needs) (p .2 (channelOf (a .counter))) (c .value2 .ensures))
+
+pub put-byte-spec : {M : Type 1} → statement M
+put-byte-spec =
+    tie.close
+    (tie.spec
+    cast-channel
+    element-copy-out-value
+    value-requires
+    mul-out
+    slice-set-from-out
+    element-copy-out-value-2
+    value-requires-2
+    add-t13
+    mul-t17
+    slice-set-from-out-2
+    same-length
+    returns)

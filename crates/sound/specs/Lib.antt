@@ -1,0 +1,2 @@
+pub mod Amplitude
+pub mod Values
