@@ -1,0 +1,2 @@
+// The run printer's text: numbers, runs and lines, byte for byte.
+mod number;
