@@ -14,7 +14,8 @@ pub fn entries_in_use(depth: u32) -> u32 {
     }
 }
 
-fn is_needed(address: u32, s: &Setting) -> bool {
+/// Needed by the setting that a record's data gives.
+pub fn is_needed(address: u32, s: &Setting) -> bool {
     match address {
         CONTROL | BORDER => true,
         HCR..=HBER | VCR..=VBER => true,

@@ -19,6 +19,12 @@ impl Trailer {
         let back = |distance: u32| 4 * u64::from(self.r - distance);
         [0, back(self.v), back(self.c), back(self.s), 4 * u64::from(self.r)]
     }
+
+    /// The five starts, then R, V, C, S.
+    pub fn nine_numbers(&self) -> Vec<u64> {
+        let distances = [self.r, self.v, self.c, self.s].map(u64::from);
+        [self.starts().as_slice(), &distances].concat()
+    }
 }
 
 /// Reading a file: 14.

@@ -133,6 +133,17 @@ impl Setting {
         2 * (self.vce - self.vcs)
     }
 
+    /// N to VCE in the paper's order, depth, what is on, and the words needed.
+    #[rustfmt::skip]
+    pub fn numbers(&self) -> [u32; 21] {
+        [
+            self.n, self.hs, self.bs, self.ds, self.de, self.be, self.cx,
+            self.v, self.vs, self.vbs, self.vds, self.vde, self.vbe, self.vcs, self.vce,
+            self.depth, self.display_on.into(), self.border_on.into(), self.cursor_on.into(),
+            self.video_words(), self.cursor_words(),
+        ]
+    }
+
     /// 11: both counts must be right.
     pub fn judge_words(&self, video: &[u32], cursor: &[u32]) -> Result<(), Refusal> {
         self.judge_video(video)?;

@@ -19,7 +19,8 @@ pub fn text(input: &[u8]) -> String {
     }
 }
 
-fn picture(input: &[u8]) -> Result<String, Refusal> {
+/// The text of a plate that is not refused.
+pub fn picture(input: &[u8]) -> Result<String, Refusal> {
     refuse_if(input.len() > MOST_INPUT, TOO_MANY_BYTES)?;
     let starts = read(input)?.starts().map(|byte| byte as usize);
     let section = |i: usize| words_of(&input[starts[i]..starts[i + 1]]);

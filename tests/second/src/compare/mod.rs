@@ -1,0 +1,21 @@
+//! The comparison: inputs are made, both programs answer, the answers and all lent memory
+//! are held side by side.
+
+pub mod bench;
+pub mod damage;
+pub mod families;
+pub mod files;
+pub mod judged;
+pub mod large;
+pub mod lent;
+pub mod make_plate;
+pub mod make_record;
+pub mod make_scene;
+pub mod pictures;
+pub mod printer;
+pub mod random;
+pub mod registers;
+pub mod show;
+pub mod sounds;
+pub mod tables;
+pub mod texts;
