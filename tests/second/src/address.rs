@@ -63,10 +63,8 @@ mod tests {
 
     #[test]
     fn stereo_registers_in_address_order() {
-        let order: Vec<u32> = (0x60..=0x7C)
-            .step_by(4)
-            .map(|a| (0..8).find(|&c| stereo(c) == a).unwrap())
-            .collect();
+        let order: Vec<u32> =
+            (0x60..=0x7C).step_by(4).map(|a| (0..8).find(|&c| stereo(c) == a).unwrap()).collect();
         assert_eq!(order, [7, 0, 1, 2, 3, 4, 5, 6]);
     }
 }

@@ -1,6 +1,8 @@
 //! The second program behind the C calls, for the feature `self`: it stands in for the
 //! library under test, so that the generators can be tried without it.
 
+#![allow(clippy::too_many_arguments)]
+
 use crate::plate;
 use crate::record::{self, Record};
 use crate::refusal::{refuse_if, Refusal, BUFFER_SHORT};
@@ -33,7 +35,11 @@ unsafe fn put_record(values: *mut u32, written: *mut u8, record: &Record) {
     put(written, &record.written.map(u8::from));
 }
 
-pub unsafe fn vom_load(values: *mut u32, _: usize, written: *mut u8, _: usize, words: *const u32, words_len: usize) -> u64 {
+pub unsafe fn vom_load(
+    values: *mut u32, _: usize,
+    written: *mut u8, _: usize,
+    words: *const u32, words_len: usize,
+) -> u64 {
     let loaded = load::load(&record_at(values, written), from_raw_parts(words, words_len));
     told(loaded.map(|r| put_record(values, written, &r)))
 }
@@ -43,7 +49,11 @@ pub unsafe fn vom_load_word(values: *mut u32, _: usize, written: *mut u8, _: usi
     told(loaded.map(|r| put_record(values, written, &r)))
 }
 
-pub unsafe fn vom_check(values: *const u32, _: usize, written: *const u8, _: usize, out: *mut u32, _: usize) -> u64 {
+pub unsafe fn vom_check(
+    values: *const u32, _: usize,
+    written: *const u8, _: usize,
+    out: *mut u32, _: usize,
+) -> u64 {
     told(setting::check(&record_at(values, written)).map(|s| put(out, &s.numbers())))
 }
 
@@ -51,36 +61,63 @@ pub unsafe fn vom_check_sound(values: *const u32, _: usize, written: *const u8, 
     told(sound_judge::check_sound(&record_at(values, written)))
 }
 
-#[rustfmt::skip]
-pub unsafe fn vom_frame(values: *const u32, _: usize, written: *const u8, _: usize, video: *const u32, video_len: usize, cursor: *const u32, cursor_len: usize, cells: *mut u16, cells_len: usize) -> u64 {
+pub unsafe fn vom_frame(
+    values: *const u32, _: usize,
+    written: *const u8, _: usize,
+    video: *const u32, video_len: usize,
+    cursor: *const u32, cursor_len: usize,
+    cells: *mut u16, cells_len: usize,
+) -> u64 {
     let (video, cursor) = (from_raw_parts(video, video_len), from_raw_parts(cursor, cursor_len));
     let made = frame::frame(&record_at(values, written), video, cursor, cells_len);
     told(made.map(|made| put(cells, &made)))
 }
 
-#[rustfmt::skip]
-pub unsafe fn vom_raster(values: *const u32, _: usize, written: *const u8, _: usize, video: *const u32, video_len: usize, cursor: *const u32, cursor_len: usize, y: u16, cells: *mut u16, cells_len: usize) -> u64 {
+pub unsafe fn vom_raster(
+    values: *const u32, _: usize,
+    written: *const u8, _: usize,
+    video: *const u32, video_len: usize,
+    cursor: *const u32, cursor_len: usize,
+    y: u16,
+    cells: *mut u16, cells_len: usize,
+) -> u64 {
     let (video, cursor) = (from_raw_parts(video, video_len), from_raw_parts(cursor, cursor_len));
     let made = raster::raster(&record_at(values, written), video, cursor, y, cells_len);
     told(made.map(|made| put(cells, &made)))
 }
 
-#[rustfmt::skip]
-pub unsafe fn vom_raster_words(values: *const u32, _: usize, written: *const u8, _: usize, video: *const u32, video_len: usize, y: u16, place: *mut u64, _: usize) -> u64 {
+pub unsafe fn vom_raster_words(
+    values: *const u32, _: usize,
+    written: *const u8, _: usize,
+    video: *const u32, video_len: usize,
+    y: u16,
+    place: *mut u64, _: usize,
+) -> u64 {
     let found = raster_words::raster_words(&record_at(values, written), from_raw_parts(video, video_len), y);
     let stretch = found.clone().unwrap_or(0..0);
     put(place, &[stretch.start as u64, stretch.len() as u64]);
     told(found.map(|_| ()))
 }
 
-#[rustfmt::skip]
-pub unsafe fn vom_marks(values: *const u32, _: usize, written: *const u8, _: usize, video: *const u32, video_len: usize, cursor: *const u32, cursor_len: usize, threshold: u8, count: *mut u64, _: usize) -> u64 {
+pub unsafe fn vom_marks(
+    values: *const u32, _: usize,
+    written: *const u8, _: usize,
+    video: *const u32, video_len: usize,
+    cursor: *const u32, cursor_len: usize,
+    threshold: u8,
+    count: *mut u64, _: usize,
+) -> u64 {
     let (video, cursor) = (from_raw_parts(video, video_len), from_raw_parts(cursor, cursor_len));
     let counted = marks::marks(&record_at(values, written), video, cursor, threshold);
     told(counted.map(|n| put(count, &[n])))
 }
 
-pub unsafe fn vom_colour(values: *const u32, _: usize, written: *const u8, _: usize, depth: u8, pixel: u8) -> u16 {
+pub unsafe fn vom_colour(
+    values: *const u32, _: usize,
+    written: *const u8, _: usize,
+    depth: u8,
+    pixel: u8,
+) -> u16 {
     colour::display(&record_at(values, written), depth.into(), pixel.into())
 }
 
@@ -92,8 +129,14 @@ pub unsafe fn vom_pin(code: u8, control: u32) -> u8 {
     pin::pin(code, control)
 }
 
-#[rustfmt::skip]
-pub unsafe fn vom_sound(values: *const u32, _: usize, written: *const u8, _: usize, words: *const u32, words_len: usize, counter: u32, out: *mut i16, out_len: usize, after: *mut u32, _: usize) -> u64 {
+pub unsafe fn vom_sound(
+    values: *const u32, _: usize,
+    written: *const u8, _: usize,
+    words: *const u32, words_len: usize,
+    counter: u32,
+    out: *mut i16, out_len: usize,
+    after: *mut u32, _: usize,
+) -> u64 {
     let made = sound::sound(&record_at(values, written), from_raw_parts(words, words_len), counter, out_len);
     put(after, &[made.as_ref().map_or(counter, |(_, after)| *after)]);
     told(made.map(|(made, _)| put(out, &made)))
@@ -112,8 +155,14 @@ pub unsafe fn vom_copy(file: *const u8, file_len: usize, words: *mut u32, words_
     told(plate::copy(from_raw_parts(file, file_len), words_len).map(|w| put(words, &w)))
 }
 
-#[rustfmt::skip]
-pub unsafe fn vom_write(registers: *const u32, registers_len: usize, video: *const u32, video_len: usize, cursor: *const u32, cursor_len: usize, sound: *const u32, sound_len: usize, out: *mut u8, out_len: usize, length: *mut u64, _: usize) -> u64 {
+pub unsafe fn vom_write(
+    registers: *const u32, registers_len: usize,
+    video: *const u32, video_len: usize,
+    cursor: *const u32, cursor_len: usize,
+    sound: *const u32, sound_len: usize,
+    out: *mut u8, out_len: usize,
+    length: *mut u64, _: usize,
+) -> u64 {
     let registers = from_raw_parts(registers, registers_len);
     let (video, cursor) = (from_raw_parts(video, video_len), from_raw_parts(cursor, cursor_len));
     let sound = from_raw_parts(sound, sound_len);
@@ -124,8 +173,11 @@ pub unsafe fn vom_write(registers: *const u32, registers_len: usize, video: *con
     }))
 }
 
-#[rustfmt::skip]
-pub unsafe fn vom_text(file: *const u8, file_len: usize, out: *mut u8, out_len: usize, length: *mut u64, _: usize) -> u64 {
+pub unsafe fn vom_text(
+    file: *const u8, file_len: usize,
+    out: *mut u8, out_len: usize,
+    length: *mut u64, _: usize,
+) -> u64 {
     let lines = text::text(from_raw_parts(file, file_len));
     told(refuse_if(out_len < lines.len(), BUFFER_SHORT).map(|()| {
         put(out, lines.as_bytes());

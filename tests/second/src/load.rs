@@ -2,7 +2,7 @@
 
 use crate::address::{address_of, is_reserved};
 use crate::record::Record;
-use crate::refusal::{refuse_if, refusal_at, Refusal, LIST_TOO_LONG, RESERVED_ADDRESS};
+use crate::refusal::{refusal_at, refuse_if, Refusal, LIST_TOO_LONG, RESERVED_ADDRESS};
 
 pub const MOST_WORDS: usize = 1024;
 

@@ -6,31 +6,96 @@ use crate::refusal::Refusal;
 
 #[cfg(feature = "self")]
 #[path = "itself.rs"]
+#[rustfmt::skip] // a pointer and its length on one line
 mod c;
 
 #[cfg(not(feature = "self"))]
+#[rustfmt::skip]
 mod c {
     // Each slice is a pointer and its length in elements. Each answer that is a u64 is
     // number * 2^32 + detail, 0 for success.
-    #[rustfmt::skip]
     extern "C" {
-        pub fn vom_load(values: *mut u32, values_len: usize, written: *mut u8, written_len: usize, words: *const u32, words_len: usize) -> u64;
-        pub fn vom_load_word(values: *mut u32, values_len: usize, written: *mut u8, written_len: usize, word: u32) -> u64;
-        pub fn vom_check(values: *const u32, values_len: usize, written: *const u8, written_len: usize, setting: *mut u32, setting_len: usize) -> u64;
-        pub fn vom_check_sound(values: *const u32, values_len: usize, written: *const u8, written_len: usize) -> u64;
-        pub fn vom_frame(values: *const u32, values_len: usize, written: *const u8, written_len: usize, video: *const u32, video_len: usize, cursor: *const u32, cursor_len: usize, cells: *mut u16, cells_len: usize) -> u64;
-        pub fn vom_raster(values: *const u32, values_len: usize, written: *const u8, written_len: usize, video: *const u32, video_len: usize, cursor: *const u32, cursor_len: usize, y: u16, cells: *mut u16, cells_len: usize) -> u64;
-        pub fn vom_raster_words(values: *const u32, values_len: usize, written: *const u8, written_len: usize, video: *const u32, video_len: usize, y: u16, place: *mut u64, place_len: usize) -> u64;
-        pub fn vom_marks(values: *const u32, values_len: usize, written: *const u8, written_len: usize, video: *const u32, video_len: usize, cursor: *const u32, cursor_len: usize, threshold: u8, count: *mut u64, count_len: usize) -> u64;
-        pub fn vom_colour(values: *const u32, values_len: usize, written: *const u8, written_len: usize, depth: u8, pixel: u8) -> u16;
+        pub fn vom_load(
+            values: *mut u32, values_len: usize,
+            written: *mut u8, written_len: usize,
+            words: *const u32, words_len: usize,
+        ) -> u64;
+        pub fn vom_load_word(
+            values: *mut u32, values_len: usize,
+            written: *mut u8, written_len: usize,
+            word: u32,
+        ) -> u64;
+        pub fn vom_check(
+            values: *const u32, values_len: usize,
+            written: *const u8, written_len: usize,
+            setting: *mut u32, setting_len: usize,
+        ) -> u64;
+        pub fn vom_check_sound(
+            values: *const u32, values_len: usize,
+            written: *const u8, written_len: usize,
+        ) -> u64;
+        pub fn vom_frame(
+            values: *const u32, values_len: usize,
+            written: *const u8, written_len: usize,
+            video: *const u32, video_len: usize,
+            cursor: *const u32, cursor_len: usize,
+            cells: *mut u16, cells_len: usize,
+        ) -> u64;
+        pub fn vom_raster(
+            values: *const u32, values_len: usize,
+            written: *const u8, written_len: usize,
+            video: *const u32, video_len: usize,
+            cursor: *const u32, cursor_len: usize,
+            y: u16,
+            cells: *mut u16, cells_len: usize,
+        ) -> u64;
+        pub fn vom_raster_words(
+            values: *const u32, values_len: usize,
+            written: *const u8, written_len: usize,
+            video: *const u32, video_len: usize,
+            y: u16,
+            place: *mut u64, place_len: usize,
+        ) -> u64;
+        pub fn vom_marks(
+            values: *const u32, values_len: usize,
+            written: *const u8, written_len: usize,
+            video: *const u32, video_len: usize,
+            cursor: *const u32, cursor_len: usize,
+            threshold: u8,
+            count: *mut u64, count_len: usize,
+        ) -> u64;
+        pub fn vom_colour(
+            values: *const u32, values_len: usize,
+            written: *const u8, written_len: usize,
+            depth: u8,
+            pixel: u8,
+        ) -> u16;
         pub fn vom_grey(colour: u16) -> u8;
         pub fn vom_pin(code: u8, control: u32) -> u8;
-        pub fn vom_sound(values: *const u32, values_len: usize, written: *const u8, written_len: usize, words: *const u32, words_len: usize, counter: u32, out: *mut i16, out_len: usize, after: *mut u32, after_len: usize) -> u64;
+        pub fn vom_sound(
+            values: *const u32, values_len: usize,
+            written: *const u8, written_len: usize,
+            words: *const u32, words_len: usize,
+            counter: u32,
+            out: *mut i16, out_len: usize,
+            after: *mut u32, after_len: usize,
+        ) -> u64;
         pub fn vom_sound_pair(byte: u8, stereo: u8, pair: *mut i16, pair_len: usize) -> u64;
         pub fn vom_read(file: *const u8, file_len: usize, places: *mut u64, places_len: usize) -> u64;
         pub fn vom_copy(file: *const u8, file_len: usize, words: *mut u32, words_len: usize) -> u64;
-        pub fn vom_write(registers: *const u32, registers_len: usize, video: *const u32, video_len: usize, cursor: *const u32, cursor_len: usize, sound: *const u32, sound_len: usize, out: *mut u8, out_len: usize, length: *mut u64, length_len: usize) -> u64;
-        pub fn vom_text(file: *const u8, file_len: usize, text: *mut u8, text_len: usize, length: *mut u64, length_len: usize) -> u64;
+        pub fn vom_write(
+            registers: *const u32, registers_len: usize,
+            video: *const u32, video_len: usize,
+            cursor: *const u32, cursor_len: usize,
+            sound: *const u32, sound_len: usize,
+            out: *mut u8, out_len: usize,
+            length: *mut u64, length_len: usize,
+        ) -> u64;
+        pub fn vom_text(
+            file: *const u8, file_len: usize,
+            text: *mut u8, text_len: usize,
+            length: *mut u64, length_len: usize,
+        ) -> u64;
     }
 }
 
@@ -81,6 +146,7 @@ pub fn check_sound(record: &Record) -> Answer {
     answer(unsafe { c::vom_check_sound(values.as_ptr(), 64, written.as_ptr(), 64) })
 }
 
+#[rustfmt::skip]
 pub fn frame(record: &Record, video: &[u32], cursor: &[u32], cells: &mut [u16]) -> Answer {
     let Raw { values, written } = record.into();
     answer(unsafe {
@@ -94,6 +160,7 @@ pub fn frame(record: &Record, video: &[u32], cursor: &[u32], cells: &mut [u16]) 
     })
 }
 
+#[rustfmt::skip]
 pub fn raster(record: &Record, video: &[u32], cursor: &[u32], y: u16, cells: &mut [u16]) -> Answer {
     let Raw { values, written } = record.into();
     answer(unsafe {
@@ -108,6 +175,7 @@ pub fn raster(record: &Record, video: &[u32], cursor: &[u32], y: u16, cells: &mu
     })
 }
 
+#[rustfmt::skip]
 pub fn raster_words(record: &Record, video: &[u32], y: u16, place: &mut [u64]) -> Answer {
     let Raw { values, written } = record.into();
     answer(unsafe {
@@ -121,6 +189,7 @@ pub fn raster_words(record: &Record, video: &[u32], y: u16, place: &mut [u64]) -
     })
 }
 
+#[rustfmt::skip]
 pub fn marks(record: &Record, video: &[u32], cursor: &[u32], threshold: u8, count: &mut [u64]) -> Answer {
     let Raw { values, written } = record.into();
     answer(unsafe {
@@ -148,6 +217,7 @@ pub fn pin(code: u8, control: u32) -> u8 {
     unsafe { c::vom_pin(code, control) }
 }
 
+#[rustfmt::skip]
 pub fn sound(record: &Record, words: &[u32], counter: u32, out: &mut [i16], after: &mut [u32]) -> Answer {
     let Raw { values, written } = record.into();
     answer(unsafe {
@@ -175,6 +245,7 @@ pub fn copy(file: &[u8], words: &mut [u32]) -> Answer {
 }
 
 /// The sections in the order of the file: registers, video, cursor, sound.
+#[rustfmt::skip]
 pub fn write(sections: [&[u32]; 4], out: &mut [u8], length: &mut [u64]) -> Answer {
     let [registers, video, cursor, sound] = sections;
     answer(unsafe {
@@ -189,6 +260,7 @@ pub fn write(sections: [&[u32]; 4], out: &mut [u8], length: &mut [u64]) -> Answe
     })
 }
 
+#[rustfmt::skip]
 pub fn text(file: &[u8], text: &mut [u8], length: &mut [u64]) -> Answer {
     answer(unsafe {
         c::vom_text(

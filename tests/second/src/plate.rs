@@ -49,7 +49,13 @@ pub fn copy(file: &[u8], lent: usize) -> Result<Vec<u32>, Refusal> {
 }
 
 /// Writing a file from its sections: 15, 13.
-pub fn write(registers: &[u32], video: &[u32], cursor: &[u32], sound: &[u32], lent: usize) -> Result<Vec<u8>, Refusal> {
+pub fn write(
+    registers: &[u32],
+    video: &[u32],
+    cursor: &[u32],
+    sound: &[u32],
+    lent: usize,
+) -> Result<Vec<u8>, Refusal> {
     let s = sound.len() as u64;
     let c = s + cursor.len() as u64;
     let v = c + video.len() as u64;

@@ -6,7 +6,13 @@ use crate::refusal::{refuse_if, Refusal, BUFFER_SHORT, RASTER_NUMBER};
 use crate::setting;
 
 /// The cells of raster y, for a lent buffer of `lent` places.
-pub fn raster(record: &Record, video: &[u32], cursor: &[u32], y: u16, lent: usize) -> Result<Vec<u16>, Refusal> {
+pub fn raster(
+    record: &Record,
+    video: &[u32],
+    cursor: &[u32],
+    y: u16,
+    lent: usize,
+) -> Result<Vec<u16>, Refusal> {
     let s = setting::check(record)?;
     s.judge_words(video, cursor)?;
     let y = u32::from(y);

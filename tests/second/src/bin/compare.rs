@@ -14,13 +14,14 @@ fn main() {
 #[cfg(against)]
 mod against {
     use second::compare::bench::Bench;
-    use second::compare::families::{run_round, FAMILIES, LONG};
+    use second::compare::families::{run_round, FAMILIES};
     use second::compare::printer::{compare_printer, PLATES};
     use second::compare::random::Random;
     use second::compare::tables;
     use std::time::{Duration, Instant};
 
-    const USAGE: &str = "compare [--seed N] [--rounds N] [--only FAMILY [--round R]] [--printer PATH]";
+    const USAGE: &str =
+        "compare [--seed N] [--rounds N] [--only FAMILY [--round R]] [--printer PATH] [--trace]";
 
     struct Wishes {
         seed: u64,
@@ -28,6 +29,7 @@ mod against {
         only: Option<String>,
         round: Option<u64>,
         printer: Option<String>,
+        trace: bool,
         soak: Duration,
     }
 
@@ -35,7 +37,7 @@ mod against {
         let wishes = wishes();
         let started = Instant::now();
         println!("seed {}", wishes.seed);
-        let mut bench = Bench { seed: wishes.seed, ..Bench::default() };
+        let mut bench = Bench::new(wishes.seed, wishes.trace);
         match &wishes.only {
             Some(name) => run_only(&mut bench, &wishes, name),
             None => run_all(&mut bench, &wishes, started),
@@ -49,21 +51,23 @@ mod against {
         let soak = std::env::var("SOAK_SECONDS").map_or(0, |text| number(&text));
         let mut wishes = Wishes {
             seed: 1986,
-            rounds: 12_000,
+            rounds: 30_000,
             only: None,
             round: None,
             printer: None,
+            trace: false,
             soak: Duration::from_secs(soak),
         };
         let mut words = std::env::args().skip(1);
         while let Some(word) = words.next() {
-            let value = words.next().unwrap_or_else(|| usage());
+            let mut value = || words.next().unwrap_or_else(|| usage());
             match word.as_str() {
-                "--seed" => wishes.seed = number(&value),
-                "--rounds" => wishes.rounds = number(&value),
-                "--only" => wishes.only = Some(value),
-                "--round" => wishes.round = Some(number(&value)),
-                "--printer" => wishes.printer = Some(value),
+                "--seed" => wishes.seed = number(&value()),
+                "--rounds" => wishes.rounds = number(&value()),
+                "--only" => wishes.only = Some(value()),
+                "--round" => wishes.round = Some(number(&value())),
+                "--printer" => wishes.printer = Some(value()),
+                "--trace" => wishes.trace = true,
                 _ => usage(),
             }
         }
@@ -96,7 +100,7 @@ mod against {
         if name == "printer" {
             return run_printer(bench, wishes, wishes.round.map_or(0..PLATES, |_| rounds));
         }
-        let found = FAMILIES.iter().chain(&LONG).find(|family| family.name == name);
+        let found = FAMILIES.iter().find(|family| family.name == name);
         let family = found.unwrap_or_else(|| usage());
         for round in rounds.filter(|round| round % family.every == 0) {
             family.run(bench, round);
@@ -107,9 +111,8 @@ mod against {
         let Some(program) = &wishes.printer else {
             return;
         };
-        bench.family = "printer";
         for round in rounds {
-            bench.round = round;
+            bench.begin("printer", round);
             let mut random = Random::new(bench.seed, "printer", round);
             compare_printer(bench, &mut random, program);
         }

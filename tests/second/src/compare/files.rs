@@ -38,8 +38,18 @@ fn compare_read(bench: &mut Bench, random: &mut Random, file: &[u8]) {
     let mut judged = Judged::answer(&expected, told);
     let numbers = expected.map(|t| t.nine_numbers()).unwrap_or_default();
     judged.memory("places", &lent, &numbers);
+    bench.see("file right only modulo 2^32", right_only_modulo(file));
     bench.see("file of 4,194,304 bytes read", file.len() == 4_194_304 && !numbers.is_empty());
     bench.count("read", judged, || format!("file {}", show::list(file)));
+}
+
+/// Wrong, but right for one who reckons 4R + 16 in 32 bits.
+fn right_only_modulo(file: &[u8]) -> bool {
+    let Some(start) = file.len().checked_sub(16) else { return false };
+    let t = plate::words_of(&file[start..]);
+    let in_order = t[0] >= t[1] && t[1] >= t[2] && t[2] >= t[3];
+    let wrapped = t[0].wrapping_mul(4).wrapping_add(16) as usize;
+    in_order && wrapped == file.len() && plate::read(file).is_err()
 }
 
 fn compare_copy(bench: &mut Bench, random: &mut Random, file: &[u8]) {

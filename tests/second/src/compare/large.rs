@@ -1,21 +1,16 @@
 //! A few large frames: long lines, many rasters, both.
 
 use super::bench::Bench;
-use super::make_record::Size;
+use super::make_record::{Size, FULL, MIDDLING, TALL, WIDE};
 use super::make_scene::{right_scene, scene};
 use super::pictures::{compare_frame, compare_marks, compare_raster, compare_raster_words};
 use super::random::Random;
 use crate::setting;
 
-const SIZES: [Size; 4] = [
-    Size { hcr: Some(1023), vcr: None },
-    Size { hcr: None, vcr: Some(1023) },
-    Size { hcr: Some(511), vcr: Some(311) },
-    Size { hcr: Some(1023), vcr: Some(1023) },
-];
+const SIZES: [Size; 4] = [WIDE, TALL, MIDDLING, FULL];
 
 pub fn large_round(bench: &mut Bench, random: &mut Random) {
-    let size = SIZES[(bench.round / super::families::LARGE_EVERY) as usize % SIZES.len()];
+    let size = random.pick(&SIZES);
     let spoiled = random.one_in(8);
     let scene = if spoiled { scene(random, size) } else { right_scene(random, size) };
     compare_frame(bench, random, &scene);

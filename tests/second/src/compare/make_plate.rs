@@ -1,6 +1,6 @@
 //! Plate files: right, and wrong in length or trailer.
 
-use super::make_record::{as_words, SMALL};
+use super::make_record::{as_words, Size};
 use super::make_scene::scene;
 use super::random::Random;
 use crate::plate::{bytes_of, write};
@@ -69,8 +69,8 @@ fn swap_trailer(random: &mut Random, file: &mut [u8]) {
 }
 
 /// A file for the printer: a scene as a plate, sometimes spoiled, sometimes too long.
-pub fn picture_file(random: &mut Random) -> Vec<u8> {
-    let scene = scene(random, SMALL);
+pub fn picture_file(random: &mut Random, size: Size) -> Vec<u8> {
+    let scene = scene(random, size);
     let mut registers = as_words(random, &scene.record);
     spoil_list(random, &mut registers);
     let sound_count = random.between(0, 9) as usize;

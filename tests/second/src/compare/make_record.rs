@@ -14,6 +14,19 @@ pub struct Size {
 }
 
 pub const SMALL: Size = Size { hcr: None, vcr: None };
+pub const WIDE: Size = Size { hcr: Some(1023), vcr: None };
+pub const TALL: Size = Size { hcr: None, vcr: Some(1023) };
+pub const MIDDLING: Size = Size { hcr: Some(511), vcr: Some(311) };
+pub const FULL: Size = Size { hcr: Some(1023), vcr: Some(1023) };
+
+/// Small, with a long line now and then.
+pub fn small_or_wide(random: &mut Random) -> Size {
+    if random.one_in(40) {
+        WIDE
+    } else {
+        SMALL
+    }
+}
 
 /// Puts a number into bits `high` to `low` of a register, leaves its other bits, marks it written.
 pub fn put(record: &mut Record, address: u32, high: u32, low: u32, number: u32) {
@@ -128,11 +141,21 @@ fn just_past(vcr: u32) -> u32 {
 
 fn both_on(random: &mut Random, vcr: u32) -> [u32; 6] {
     loop {
-        let n = rising(random, 5, vcr);
+        let n = if random.one_in(3) { rising(random, 5, vcr) } else { mostly_display(random, vcr) };
         if n[2] < n[3] {
             return [vcr, n[0], n[1], n[2], n[3], n[4]];
         }
     }
+}
+
+/// Small margins above and below the display.
+fn mostly_display(random: &mut Random, vcr: u32) -> Vec<u32> {
+    let vswr = random.gap();
+    let vbsr = vswr + random.gap();
+    let vdsr = vbsr + random.gap();
+    let vber = vcr.saturating_sub(random.gap());
+    let vder = vber.saturating_sub(random.gap());
+    vec![vswr, vbsr, vdsr, vder, vber]
 }
 
 fn display_off(random: &mut Random, vcr: u32) -> [u32; 6] {
@@ -166,7 +189,7 @@ fn put_cursor(random: &mut Random, record: &mut Record) {
 
 fn put_cursor_on(random: &mut Random, record: &mut Record, vcr: u32) {
     let vcsr = random.between(0, vcr - 1);
-    let highest = vcr.min(vcsr + 40);
+    let highest = if random.one_in(3) { vcr } else { vcr.min(vcsr + 40) };
     put_value(record, VCSR, vcsr);
     put_value(record, VCER, random.between(vcsr + 1, highest));
     put(record, HCSR, 23, 13, cursor_start(random, record));
@@ -223,5 +246,5 @@ pub fn as_words(random: &mut Random, record: &Record) -> Vec<u32> {
 
 /// A register word; bits 25 and 24 are ignored, so they are garbage.
 pub fn word(random: &mut Random, slot: u32, data: u32) -> u32 {
-    slot << 26 | random.between(0, 3) << 24 | data % (1 << 24)
+    (slot << 26) | (random.between(0, 3) << 24) | (data % (1 << 24))
 }

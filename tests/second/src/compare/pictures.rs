@@ -3,7 +3,7 @@
 use super::bench::Bench;
 use super::judged::Judged;
 use super::lent::{lent_length, Lent};
-use super::make_record::{ground, SMALL};
+use super::make_record::{ground, small_or_wide};
 use super::make_scene::{scene, Scene};
 use super::random::Random;
 use super::show;
@@ -12,7 +12,8 @@ use crate::setting::{self, Setting};
 use crate::{colour, frame, grey, marks, ours, pin, raster, raster_words};
 
 pub fn frame_round(bench: &mut Bench, random: &mut Random) {
-    let scene = scene(random, SMALL);
+    let size = small_or_wide(random);
+    let scene = scene(random, size);
     compare_frame(bench, random, &scene);
 }
 
@@ -64,7 +65,8 @@ fn see_cells(bench: &mut Bench, s: &Setting, cells: &[u16]) {
 }
 
 pub fn raster_round(bench: &mut Bench, random: &mut Random) {
-    let scene = scene(random, SMALL);
+    let size = small_or_wide(random);
+    let scene = scene(random, size);
     let rasters = setting::check(&scene.record).map_or(3, |s| s.v) as u16;
     for y in 0..rasters {
         compare_raster(bench, random, &scene, y);
@@ -102,7 +104,8 @@ pub fn compare_raster_words(bench: &mut Bench, random: &mut Random, scene: &Scen
 }
 
 pub fn marks_round(bench: &mut Bench, random: &mut Random) {
-    let scene = scene(random, SMALL);
+    let size = small_or_wide(random);
+    let scene = scene(random, size);
     for threshold in [0, 1, 127, 128, 254, 255] {
         compare_marks(bench, random, &scene, threshold);
     }

@@ -3,6 +3,7 @@
 use super::bench::Bench;
 use super::judged::Judged;
 use super::make_plate::picture_file;
+use super::make_record::{MIDDLING, SMALL, TALL, WIDE};
 use super::random::Random;
 use super::show;
 use crate::text::{picture, text};
@@ -13,7 +14,8 @@ use std::thread;
 pub const PLATES: u64 = 600;
 
 pub fn compare_printer(bench: &mut Bench, random: &mut Random, program: &str) {
-    let file = picture_file(random);
+    let size = if random.one_in(20) { random.pick(&[WIDE, TALL, MIDDLING]) } else { SMALL };
+    let file = picture_file(random, size);
     let printed = run(program, &file).unwrap_or_else(|error| format!("could not be run: {error}"));
     let mut judged = Judged { refused: picture(&file).err(), ..Judged::default() };
     judged.same("text", &text(&file), &printed);

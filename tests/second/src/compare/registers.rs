@@ -4,10 +4,10 @@ use super::bench::Bench;
 use super::damage::{damage, damage_sound, nudge};
 use super::judged::Judged;
 use super::lent::Lent;
-use super::make_record::{as_words, ground, right, right_for_sound, word, SMALL};
+use super::make_record::*;
 use super::random::Random;
 use super::show;
-use crate::address::is_reserved;
+use crate::address::{is_reserved, VCER, VCSR};
 use crate::load::load;
 use crate::ours::{self, Raw};
 use crate::record::{load_word, Record};
@@ -83,7 +83,12 @@ fn compare_load_word(bench: &mut Bench, record: &Record, word: u32) {
 }
 
 /// The record afterwards: changed as expected, or as it came.
-fn judge_record(before: &Record, expected: &Result<Record, Refusal>, told: ours::Answer, after: &Raw) -> Judged {
+fn judge_record(
+    before: &Record,
+    expected: &Result<Record, Refusal>,
+    told: ours::Answer,
+    after: &Raw,
+) -> Judged {
     let mut judged = Judged::answer(expected, told);
     let right = Raw::from(expected.as_ref().unwrap_or(before));
     judged.same("record", &right, after);
@@ -91,11 +96,12 @@ fn judge_record(before: &Record, expected: &Result<Record, Refusal>, told: ours:
 }
 
 pub fn check_round(bench: &mut Bench, random: &mut Random) {
-    let mut record = right(random, SMALL);
+    let size = random.pick(&[SMALL, SMALL, WIDE, TALL, FULL]);
+    let mut record = right(random, size);
     compare_check(bench, random, &record);
     damage(random, &mut record);
     compare_check(bench, random, &record);
-    let mut record = right(random, SMALL);
+    let mut record = right(random, size);
     nudge(random, &mut record);
     compare_check(bench, random, &record);
     let words = as_words(random, &record);
@@ -112,6 +118,13 @@ fn compare_check(bench: &mut Bench, random: &mut Random, record: &Record) {
     let mut judged = Judged::answer(&expected, told);
     let numbers = expected.as_ref().map(|s| s.numbers().to_vec()).unwrap_or_default();
     judged.memory("setting", &lent, &numbers);
+    if let Ok(s) = &expected {
+        let half = record.is_written(VCSR) != record.is_written(VCER);
+        bench.see("setting with the cursor half written", half);
+        bench.see("setting with BE = 2047", s.be == 2047);
+        bench.see("setting with HS = BS - 1 and DS = BS", s.hs + 1 == s.bs && s.bs == s.ds);
+        bench.see("setting with an unneeded palette entry unwritten", !record.is_written(0x3C));
+    }
     bench.count("check", judged, || format!("record {}", show::record(record)));
 }
 

@@ -28,9 +28,19 @@ pub fn print(bench: &Bench) {
         print_row(call, row);
     }
     print_row("all", &totals(bench));
+    print_details(bench);
     println!("seen in the inputs:");
     for (sight, times) in &bench.sights {
         println!("{times:>10}  {sight}");
+    }
+}
+
+/// The details of the refusals that name an address.
+fn print_details(bench: &Bench) {
+    for number in [3, 10] {
+        let met = bench.refusals.iter().filter(|((n, _), _)| *n == number);
+        let details: Vec<String> = met.map(|((_, detail), times)| format!("{detail:02X}H {times}")).collect();
+        println!("refusal {number} by address: {}", details.join(", "));
     }
 }
 
@@ -65,8 +75,20 @@ pub fn never_met(bench: &Bench) -> Vec<String> {
             missing.push(call.to_string());
         }
     }
+    missing.extend(details_never_met(bench));
     let all = totals(bench);
     missing.extend((1..16).filter(|&n| all[n] == 0).map(|n| format!("refusal {n}")));
     missing.extend(bench.sights.iter().filter(|(_, n)| **n == 0).map(|(s, _)| s.to_string()));
     missing
+}
+
+/// Each address that 3 and 10 can name.
+fn details_never_met(bench: &Bench) -> Vec<String> {
+    let for_sound = |a: &u32| matches!(a, 0x60..=0x7C | 0xC0);
+    let for_either = |a: &u32| for_sound(a) || matches!(a, 0x00..=0x4C | 0x80..=0x98 | 0xA0..=0xB4 | 0xE0);
+    let addresses = || (0x00..=0xFC).step_by(4);
+    let three = addresses().filter(for_either).map(|a| (3, a));
+    let ten = addresses().filter(for_sound).map(|a| (10, a));
+    let missing = three.chain(ten).filter(|met| !bench.refusals.contains_key(met));
+    missing.map(|(number, a)| format!("refusal {number} with {a:02X}H")).collect()
 }

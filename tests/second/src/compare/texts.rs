@@ -4,6 +4,7 @@ use super::bench::Bench;
 use super::judged::Judged;
 use super::lent::Lent;
 use super::make_plate::picture_file;
+use super::make_record::{small_or_wide, FULL, MIDDLING, TALL, WIDE};
 use super::random::Random;
 use super::show;
 use crate::ours;
@@ -11,7 +12,15 @@ use crate::refusal::{refuse_if, Refusal, BUFFER_SHORT};
 use crate::text::{picture, text};
 
 pub fn text_round(bench: &mut Bench, random: &mut Random) {
-    let file = picture_file(random);
+    let size = small_or_wide(random);
+    let file = picture_file(random, size);
+    compare_text(bench, random, &file);
+}
+
+/// Long lines, many rasters; what is too much for the printer is refused with 15.
+pub fn large_text_round(bench: &mut Bench, random: &mut Random) {
+    let size = random.pick(&[WIDE, TALL, TALL, MIDDLING, FULL]);
+    let file = picture_file(random, size);
     compare_text(bench, random, &file);
 }
 
@@ -35,6 +44,11 @@ fn compare_text(bench: &mut Bench, random: &mut Random, file: &[u8]) {
     judged.memory("length", &told_length, &bytes);
     judged.memory("text", &out, expected.unwrap_or_default());
     judged.refused = counted_as(file, expected.err());
+    bench.see("text of 1,025 lines", lines.lines().count() == 1025);
+    let long_run = lines.split_whitespace().any(|run| run.len() >= "2x1000".len());
+    bench.see("text with a run of a thousand pixels", judged.refused.is_none() && long_run);
+    bench.see("text with marks", judged.refused.is_none() && !lines.contains(" marks 0\n"));
+    bench.see("text of a plate of 65,536 bytes", file.len() == 65_536 && judged.refused.is_none());
     bench.count("text", judged, || {
         format!("file {}\nbuffer of {length} bytes\nthe text is\n{lines}", show::list(file))
     });
