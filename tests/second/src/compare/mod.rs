@@ -19,3 +19,19 @@ pub mod show;
 pub mod sounds;
 pub mod tables;
 pub mod texts;
+
+#[cfg(all(test, feature = "self"))]
+mod tests {
+    use super::bench::Bench;
+    use super::families::run_round;
+
+    #[test]
+    fn the_second_program_agrees_with_itself() {
+        let mut bench = Bench::new(7, false);
+        for round in 1..300 {
+            run_round(&mut bench, round);
+        }
+        assert!(bench.passed > 5_000);
+        assert_eq!(bench.failed, 0);
+    }
+}
