@@ -31,7 +31,7 @@ pub const FAMILIES: [Family; 18] = [
     Family { name: "write", every: 1, round: files::write_round },
     Family { name: "text", every: 1, round: texts::text_round },
     Family { name: "large_text", every: 50, round: texts::large_text_round },
-    Family { name: "long_file", every: 500, round: files::long_file_round },
+    Family { name: "long_file", every: 200, round: files::long_file_round },
     Family { name: "long_write", every: 100, round: files::long_write_round },
 ];
 

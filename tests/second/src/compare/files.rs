@@ -3,7 +3,7 @@
 use super::bench::Bench;
 use super::judged::Judged;
 use super::lent::{lent_length, Lent};
-use super::make_plate::{right_file, spoil_file};
+use super::make_plate::{right_file, section_counts, spoil_file};
 use super::random::Random;
 use super::show;
 use crate::ours;
@@ -38,9 +38,17 @@ fn compare_read(bench: &mut Bench, random: &mut Random, file: &[u8]) {
     let mut judged = Judged::answer(&expected, told);
     let numbers = expected.map(|t| t.nine_numbers()).unwrap_or_default();
     judged.memory("places", &lent, &numbers);
+    bench.see("file of 16 bytes read", file.len() == 16 && !numbers.is_empty());
+    bench.see("file too long, right otherwise", right_but_long(file));
     bench.see("file right only modulo 2^32", right_only_modulo(file));
     bench.see("file of 4,194,304 bytes read", file.len() == 4_194_304 && !numbers.is_empty());
     bench.count("read", judged, || format!("file {}", show::list(file)));
+}
+
+/// Above the limit, with a trailer that fits.
+fn right_but_long(file: &[u8]) -> bool {
+    let distance = plate::words_of(&file[file.len().saturating_sub(16)..]).first().copied();
+    file.len() as u64 > MOST_BYTES && distance.is_some_and(|r| 4 * r as usize + 16 == file.len())
 }
 
 /// Wrong, but right for one who reckons 4R + 16 in 32 bits.
@@ -64,7 +72,7 @@ fn compare_copy(bench: &mut Bench, random: &mut Random, file: &[u8]) {
 }
 
 pub fn write_round(bench: &mut Bench, random: &mut Random) {
-    let counts = [(); 4].map(|()| random.between(0, 15) as usize);
+    let counts = section_counts(random, 15);
     let [registers, video, cursor, sound] = counts.map(|count| random.words(count));
     compare_write(bench, random, [&registers, &video, &cursor, &sound]);
 }
@@ -92,6 +100,7 @@ fn compare_write(bench: &mut Bench, random: &mut Random, sections: [&[u32]; 4]) 
     judged.memory("length", &told_length, &bytes);
     judged.memory("bytes", &out, expected.as_deref().unwrap_or_default());
     bench.see("file of 4,194,304 bytes written", bytes == [4_194_304]);
+    bench.see("file of 16 bytes written", bytes == [16]);
     bench.count("write", judged, || {
         format!("sections {}\nbuffer of {length} bytes", sections.map(show::list).join("\nand "))
     });

@@ -7,9 +7,21 @@ use crate::plate::{bytes_of, write};
 
 /// A file of random sections, right in length and trailer.
 pub fn right_file(random: &mut Random, most_words: u32) -> Vec<u8> {
-    let counts = [(); 4].map(|()| random.between(0, most_words) as usize);
+    let counts = section_counts(random, most_words);
     let [registers, video, cursor, sound] = counts.map(|count| random.words(count));
     write(&registers, &video, &cursor, &sound, usize::MAX).expect("small enough")
+}
+
+/// Lengths of the four sections, often none.
+pub fn section_counts(random: &mut Random, most_words: u32) -> [usize; 4] {
+    let empty_in_four = if random.one_in(4) { 3 } else { 1 };
+    [(); 4].map(|()| {
+        if random.between(1, 4) <= empty_in_four {
+            0
+        } else {
+            random.between(0, most_words) as usize
+        }
+    })
 }
 
 /// Wrong in one way or another.
