@@ -1,0 +1,10 @@
+//! The run printer: a plate on standard input, its text on standard output.
+
+use second::text::{text, MOST_INPUT};
+use std::io::{self, Read, Write};
+
+fn main() -> io::Result<()> {
+    let mut plate = Vec::new();
+    io::stdin().take(MOST_INPUT as u64 + 1).read_to_end(&mut plate)?;
+    io::stdout().write_all(text(&plate).as_bytes())
+}

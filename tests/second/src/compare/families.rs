@@ -1,0 +1,51 @@
+//! The families of comparisons and how often each has its turn.
+
+use super::bench::Bench;
+use super::random::Random;
+use super::{files, large, pictures, registers, sounds, texts};
+
+pub struct Family {
+    pub name: &'static str,
+    /// Runs in rounds 0, every, 2 * every, ..
+    pub every: u64,
+    round: fn(&mut Bench, &mut Random),
+}
+
+const ONCE: u64 = u64::MAX;
+
+#[rustfmt::skip]
+pub const FAMILIES: [Family; 18] = [
+    Family { name: "load", every: 1, round: registers::load_round },
+    Family { name: "check", every: 1, round: registers::check_round },
+    Family { name: "check_sound", every: 1, round: registers::check_sound_round },
+    Family { name: "frame", every: 1, round: pictures::frame_round },
+    Family { name: "raster", every: 1, round: pictures::raster_round },
+    Family { name: "marks", every: 1, round: pictures::marks_round },
+    Family { name: "colour", every: 50, round: pictures::colour_round },
+    Family { name: "grey", every: ONCE, round: pictures::every_grey },
+    Family { name: "pin", every: ONCE, round: pictures::every_pin },
+    Family { name: "large", every: 200, round: large::large_round },
+    Family { name: "sound", every: 1, round: sounds::sound_round },
+    Family { name: "sound_pair", every: ONCE, round: sounds::every_pair },
+    Family { name: "file", every: 1, round: files::file_round },
+    Family { name: "write", every: 1, round: files::write_round },
+    Family { name: "text", every: 1, round: texts::text_round },
+    Family { name: "large_text", every: 50, round: texts::large_text_round },
+    Family { name: "long_file", every: 200, round: files::long_file_round },
+    Family { name: "long_write", every: 100, round: files::long_write_round },
+];
+
+impl Family {
+    pub fn run(&self, bench: &mut Bench, round: u64) {
+        bench.begin(self.name, round);
+        let mut random = Random::new(bench.seed, self.name, round);
+        (self.round)(bench, &mut random);
+    }
+}
+
+/// Every family whose turn it is in this round.
+pub fn run_round(bench: &mut Bench, round: u64) {
+    for family in FAMILIES.iter().filter(|family| round.is_multiple_of(family.every)) {
+        family.run(bench, round);
+    }
+}

@@ -1,0 +1,107 @@
+//! Reading, copying out and writing plate files.
+
+use super::bench::Bench;
+use super::judged::Judged;
+use super::lent::{lent_length, Lent};
+use super::make_plate::{right_file, section_counts, spoil_file};
+use super::random::Random;
+use super::show;
+use crate::ours;
+use crate::plate::{self, MOST_BYTES};
+
+pub fn file_round(bench: &mut Bench, random: &mut Random) {
+    let mut file = right_file(random, 12);
+    if random.one_in(2) {
+        spoil_file(random, &mut file);
+    }
+    compare_read(bench, random, &file);
+    compare_copy(bench, random, &file);
+}
+
+/// Files at the limit of 4,194,304 bytes and just above it.
+pub fn long_file_round(bench: &mut Bench, random: &mut Random) {
+    let words = (MOST_BYTES / 4) as u32 - 4 + random.pick(&[0, 0, 1, 2]);
+    let mut file = plate::bytes_of(&random.words(words as usize));
+    let middle = random.between(0, words);
+    file.extend(plate::bytes_of(&[words, middle, middle / 2, 0]));
+    if random.one_in(4) {
+        file.pop();
+    }
+    compare_read(bench, random, &file);
+    compare_copy(bench, random, &file);
+}
+
+fn compare_read(bench: &mut Bench, random: &mut Random, file: &[u8]) {
+    let expected = plate::read(file);
+    let mut lent: Lent<u64> = Lent::new(random, 9);
+    let told = ours::read(file, lent.lend());
+    let mut judged = Judged::answer(&expected, told);
+    let numbers = expected.map(|t| t.nine_numbers()).unwrap_or_default();
+    judged.memory("places", &lent, &numbers);
+    bench.see("file of 16 bytes read", file.len() == 16 && !numbers.is_empty());
+    bench.see("file too long, right otherwise", right_but_long(file));
+    bench.see("file right only modulo 2^32", right_only_modulo(file));
+    bench.see("file of 4,194,304 bytes read", file.len() == 4_194_304 && !numbers.is_empty());
+    bench.count("read", judged, || format!("file {}", show::list(file)));
+}
+
+/// Above the limit, with a trailer that fits.
+fn right_but_long(file: &[u8]) -> bool {
+    let distance = plate::words_of(&file[file.len().saturating_sub(16)..]).first().copied();
+    file.len() as u64 > MOST_BYTES && distance.is_some_and(|r| 4 * r as usize + 16 == file.len())
+}
+
+/// Wrong, but right for one who reckons 4R + 16 in 32 bits.
+fn right_only_modulo(file: &[u8]) -> bool {
+    let Some(start) = file.len().checked_sub(16) else { return false };
+    let t = plate::words_of(&file[start..]);
+    let in_order = t[0] >= t[1] && t[1] >= t[2] && t[2] >= t[3];
+    let wrapped = t[0].wrapping_mul(4).wrapping_add(16) as usize;
+    in_order && wrapped == file.len() && plate::read(file).is_err()
+}
+
+fn compare_copy(bench: &mut Bench, random: &mut Random, file: &[u8]) {
+    let needed = plate::read(file).map_or(20, |t| t.r as usize);
+    let length = lent_length(random, needed);
+    let expected = plate::copy(file, length);
+    let mut lent: Lent<u32> = Lent::new(random, length);
+    let told = ours::copy(file, lent.lend());
+    let mut judged = Judged::answer(&expected, told);
+    judged.memory("words", &lent, expected.as_deref().unwrap_or_default());
+    bench.count("copy", judged, || format!("file {}\nbuffer of {length} words", show::list(file)));
+}
+
+pub fn write_round(bench: &mut Bench, random: &mut Random) {
+    let counts = section_counts(random, 15);
+    let [registers, video, cursor, sound] = counts.map(|count| random.words(count));
+    compare_write(bench, random, [&registers, &video, &cursor, &sound]);
+}
+
+/// Sections that together come to the limit, or pass it.
+pub fn long_write_round(bench: &mut Bench, random: &mut Random) {
+    let most = (MOST_BYTES / 4) as u32 - 4;
+    let total = most + random.pick(&[0, 1, 1, 2, 100]);
+    let mut cuts = [(); 3].map(|()| random.between(0, total) as usize);
+    cuts.sort_unstable();
+    let words = random.words(total as usize);
+    let sections = [&words[..cuts[0]], &words[cuts[0]..cuts[1]], &words[cuts[1]..cuts[2]], &words[cuts[2]..]];
+    compare_write(bench, random, sections);
+}
+
+fn compare_write(bench: &mut Bench, random: &mut Random, sections: [&[u32]; 4]) {
+    let [registers, video, cursor, sound] = sections;
+    let words: usize = sections.iter().map(|section| section.len()).sum();
+    let length = lent_length(random, 4 * words + 16);
+    let expected = plate::write(registers, video, cursor, sound, length);
+    let (mut out, mut told_length) = (Lent::<u8>::new(random, length), Lent::<u64>::new(random, 1));
+    let told = ours::write(sections, out.lend(), told_length.lend());
+    let mut judged = Judged::answer(&expected, told);
+    let bytes = expected.iter().map(|file| file.len() as u64).collect::<Vec<_>>();
+    judged.memory("length", &told_length, &bytes);
+    judged.memory("bytes", &out, expected.as_deref().unwrap_or_default());
+    bench.see("file of 4,194,304 bytes written", bytes == [4_194_304]);
+    bench.see("file of 16 bytes written", bytes == [16]);
+    bench.count("write", judged, || {
+        format!("sections {}\nbuffer of {length} bytes", sections.map(show::list).join("\nand "))
+    });
+}

@@ -1,0 +1,25 @@
+//! A few large frames: long lines, many rasters, both.
+
+use super::bench::Bench;
+use super::make_record::{Size, FULL, MIDDLING, TALL, WIDE};
+use super::make_scene::{right_scene, scene};
+use super::pictures::{compare_frame, compare_marks, compare_raster, compare_raster_words};
+use super::random::Random;
+use crate::setting;
+
+const SIZES: [Size; 4] = [WIDE, TALL, MIDDLING, FULL];
+
+pub fn large_round(bench: &mut Bench, random: &mut Random) {
+    let size = random.pick(&SIZES);
+    let spoiled = random.one_in(8);
+    let scene = if spoiled { scene(random, size) } else { right_scene(random, size) };
+    compare_frame(bench, random, &scene);
+    let threshold = (random.next() >> 56) as u8;
+    compare_marks(bench, random, &scene, threshold);
+    let last = setting::check(&scene.record).map_or(0, |s| s.v - 1);
+    for _ in 0..20 {
+        let y = random.between(0, last) as u16;
+        compare_raster(bench, random, &scene, y);
+        compare_raster_words(bench, random, &scene, y);
+    }
+}

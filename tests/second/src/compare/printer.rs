@@ -1,0 +1,37 @@
+//! The printer as a program: plates on its standard input, its text compared.
+
+use super::bench::Bench;
+use super::judged::Judged;
+use super::make_plate::picture_file;
+use super::make_record::{MIDDLING, SMALL, TALL, WIDE};
+use super::random::Random;
+use super::show;
+use crate::text::{picture, text};
+use std::io::{self, Write};
+use std::process::{Child, Command, Stdio};
+use std::thread;
+
+pub const PLATES: u64 = 600;
+
+pub fn compare_printer(bench: &mut Bench, random: &mut Random, program: &str) {
+    let size = if random.one_in(20) { random.pick(&[WIDE, TALL, MIDDLING]) } else { SMALL };
+    let file = picture_file(random, size);
+    let printed = run(program, &file).unwrap_or_else(|error| format!("could not be run: {error}"));
+    let mut judged = Judged { refused: picture(&file).err(), ..Judged::default() };
+    judged.same("text", &text(&file), &printed);
+    bench.count("printer", judged, || format!("file {}", show::list(&file)));
+}
+
+fn run(program: &str, input: &[u8]) -> io::Result<String> {
+    let mut child = Command::new(program).stdin(Stdio::piped()).stdout(Stdio::piped()).spawn()?;
+    let feeder = feed(&mut child, input.to_vec());
+    let output = child.wait_with_output()?;
+    feeder.join().expect("the feeding thread does not panic");
+    Ok(String::from_utf8_lossy(&output.stdout).into_owned())
+}
+
+/// Feeds the input from a thread; the printer may stop reading when it has seen too much.
+fn feed(child: &mut Child, input: Vec<u8>) -> thread::JoinHandle<()> {
+    let mut stdin = child.stdin.take().expect("standard input is piped");
+    thread::spawn(move || drop(stdin.write_all(&input)))
+}

@@ -1,0 +1,142 @@
+//! Loading and the two checks.
+
+use super::bench::Bench;
+use super::damage::{damage, damage_sound, nudge};
+use super::judged::Judged;
+use super::lent::Lent;
+use super::make_record::*;
+use super::random::Random;
+use super::show;
+use crate::address::{is_reserved, VCER, VCSR};
+use crate::load::load;
+use crate::ours::{self, Raw};
+use crate::record::{load_word, Record};
+use crate::refusal::Refusal;
+use crate::setting;
+use crate::sound_judge;
+
+pub fn load_round(bench: &mut Bench, random: &mut Random) {
+    let record = ground(random);
+    let words = list(random);
+    compare_load(bench, &record, &words);
+    let address = random.between(0, 63);
+    let data = random.word();
+    compare_load_word(bench, &record, word(random, address, data));
+}
+
+/// Words at named addresses, some lists with reserved ones, some too long.
+fn list(random: &mut Random) -> Vec<u32> {
+    let count = match random.between(0, 19) {
+        0 => random.pick(&[1023, 1024]),
+        1 => random.pick(&[1025, 1026, 1100, 2000]),
+        2 => 0,
+        3 => random.between(50, 500),
+        _ => random.between(1, 40),
+    };
+    let mut words: Vec<u32> = (0..count).map(|_| named_word(random)).collect();
+    if random.one_in(2) {
+        for _ in 0..random.between(1, 3) {
+            set_reserved(random, &mut words);
+        }
+    }
+    words
+}
+
+fn named_word(random: &mut Random) -> u32 {
+    loop {
+        let word = random.word();
+        if !is_reserved(word >> 26 << 2) {
+            return word;
+        }
+    }
+}
+
+/// Makes one of the words reserved, often the last or the first.
+fn set_reserved(random: &mut Random, words: &mut [u32]) {
+    if words.is_empty() {
+        return;
+    }
+    let last = words.len() as u32 - 1;
+    let any = random.between(0, last);
+    let place = random.pick(&[0, last, any, any]);
+    let slots: Vec<u32> = (0..64).filter(|&slot| is_reserved(4 * slot)).collect();
+    let slot = random.pick(&slots);
+    let data = random.word();
+    words[place as usize] = word(random, slot, data);
+}
+
+pub fn compare_load(bench: &mut Bench, record: &Record, words: &[u32]) {
+    let expected = load(record, words);
+    let mut raw = Raw::from(record);
+    let told = ours::load(&mut raw, words);
+    let judged = judge_record(record, &expected, told, &raw);
+    bench.see("record given with bits above 23", record.values.iter().any(|v| *v >= 1 << 24));
+    bench.count("load", judged, || format!("record {}\nwords {}", show::record(record), show::list(words)));
+}
+
+fn compare_load_word(bench: &mut Bench, record: &Record, word: u32) {
+    let expected = load_word(record, word);
+    let mut raw = Raw::from(record);
+    let told = ours::load_word(&mut raw, word);
+    let judged = judge_record(record, &expected, told, &raw);
+    bench.count("load_word", judged, || format!("record {}\nword {word:08x}", show::record(record)));
+}
+
+/// The record afterwards: changed as expected, or as it came.
+fn judge_record(
+    before: &Record,
+    expected: &Result<Record, Refusal>,
+    told: ours::Answer,
+    after: &Raw,
+) -> Judged {
+    let mut judged = Judged::answer(expected, told);
+    let right = Raw::from(expected.as_ref().unwrap_or(before));
+    judged.same("record", &right, after);
+    judged
+}
+
+pub fn check_round(bench: &mut Bench, random: &mut Random) {
+    let size = random.pick(&[SMALL, SMALL, WIDE, TALL, FULL]);
+    let mut record = right(random, size);
+    compare_check(bench, random, &record);
+    damage(random, &mut record);
+    compare_check(bench, random, &record);
+    let mut record = right(random, size);
+    nudge(random, &mut record);
+    compare_check(bench, random, &record);
+    let words = as_words(random, &record);
+    let loaded = load(&Record::fresh(), &words).expect("only named addresses");
+    compare_check(bench, random, &loaded);
+    let garbage = ground(random);
+    compare_check(bench, random, &garbage);
+}
+
+fn compare_check(bench: &mut Bench, random: &mut Random, record: &Record) {
+    let expected = setting::check(record);
+    let mut lent: Lent<u32> = Lent::new(random, 21);
+    let told = ours::check(record, lent.lend());
+    let mut judged = Judged::answer(&expected, told);
+    let numbers = expected.as_ref().map(|s| s.numbers().to_vec()).unwrap_or_default();
+    judged.memory("setting", &lent, &numbers);
+    if let Ok(s) = &expected {
+        let half = record.is_written(VCSR) != record.is_written(VCER);
+        bench.see("setting with the cursor half written", half);
+        bench.see("setting with BE = 2047", s.be == 2047);
+        bench.see("setting with HS = BS - 1 and DS = BS", s.hs + 1 == s.bs && s.bs == s.ds);
+        bench.see("setting with an unneeded palette entry unwritten", !record.is_written(0x3C));
+    }
+    bench.count("check", judged, || format!("record {}", show::record(record)));
+}
+
+pub fn check_sound_round(bench: &mut Bench, random: &mut Random) {
+    let mut record = right_for_sound(random);
+    compare_check_sound(bench, &record);
+    damage_sound(random, &mut record);
+    compare_check_sound(bench, &record);
+}
+
+fn compare_check_sound(bench: &mut Bench, record: &Record) {
+    let expected = sound_judge::check_sound(record);
+    let judged = Judged::answer(&expected, ours::check_sound(record));
+    bench.count("check_sound", judged, || format!("record {}", show::record(record)));
+}

@@ -1,0 +1,94 @@
+//! The tables at the end: each refusal and each call, how often met. What must be met and
+//! was not is a failure.
+
+use super::bench::{Bench, Row};
+
+/// The refusals that each call can give, from the paper's orders.
+const CAN_REFUSE: [(&str, &[usize]); 12] = [
+    ("load", &[1, 2]),
+    ("load_word", &[2]),
+    ("check", &[3, 4, 5, 6, 7, 8, 9]),
+    ("check_sound", &[3, 10]),
+    ("frame", &[3, 4, 5, 6, 7, 8, 9, 11, 13]),
+    ("raster", &[3, 4, 5, 6, 7, 8, 9, 11, 12, 13]),
+    ("raster_words", &[3, 4, 5, 6, 7, 8, 9, 11, 12]),
+    ("marks", &[3, 4, 5, 6, 7, 8, 9, 11]),
+    ("sound", &[3, 10, 13]),
+    ("copy", &[13, 14]),
+    ("write", &[13, 15]),
+    ("text", &[1, 2, 3, 4, 5, 6, 7, 8, 9, 11, 13, 14, 15]),
+];
+
+const ALWAYS_ANSWERED: [&str; 4] = ["colour", "grey", "pin", "sound_pair"];
+
+pub fn print(bench: &Bench) {
+    println!("inputs compared, by call: accepted, then refused by number");
+    println!("{:<14}{:>9}{}", "call", "accepted", (1..16).map(|n| format!("{n:>7}")).collect::<String>());
+    for (call, row) in &bench.calls {
+        print_row(call, row);
+    }
+    print_row("all", &totals(bench));
+    print_details(bench);
+    println!("seen in the inputs:");
+    for (sight, times) in &bench.sights {
+        println!("{times:>10}  {sight}");
+    }
+}
+
+/// The details of the refusals that name an address.
+fn print_details(bench: &Bench) {
+    for number in [3, 10] {
+        let met = bench.refusals.iter().filter(|((n, _), _)| *n == number);
+        let details: Vec<String> = met.map(|((_, detail), times)| format!("{detail:02X}H {times}")).collect();
+        println!("refusal {number} by address: {}", details.join(", "));
+    }
+}
+
+fn print_row(call: &str, row: &Row) {
+    let numbers: String = row[1..].iter().map(|n| format!("{n:>7}")).collect();
+    println!("{call:<14}{:>9}{numbers}", row[0]);
+}
+
+fn totals(bench: &Bench) -> Row {
+    let mut all = Row::default();
+    for row in bench.calls.values() {
+        for (sum, times) in all.iter_mut().zip(row) {
+            *sum += times;
+        }
+    }
+    all
+}
+
+/// What should have been met and never was.
+pub fn never_met(bench: &Bench) -> Vec<String> {
+    let times = |call: &str, number: usize| bench.calls.get(call).map_or(0, |row| row[number]);
+    let mut missing = Vec::new();
+    for (call, numbers) in CAN_REFUSE {
+        for &number in [0].iter().chain(numbers) {
+            if times(call, number) == 0 {
+                missing.push(format!("{call} with {number}"));
+            }
+        }
+    }
+    for call in ALWAYS_ANSWERED {
+        if times(call, 0) == 0 {
+            missing.push(call.to_string());
+        }
+    }
+    missing.extend(details_never_met(bench));
+    let all = totals(bench);
+    missing.extend((1..16).filter(|&n| all[n] == 0).map(|n| format!("refusal {n}")));
+    missing.extend(bench.sights.iter().filter(|(_, n)| **n == 0).map(|(s, _)| s.to_string()));
+    missing
+}
+
+/// Each address that 3 and 10 can name.
+fn details_never_met(bench: &Bench) -> Vec<String> {
+    let for_sound = |a: &u32| matches!(a, 0x60..=0x7C | 0xC0);
+    let for_either = |a: &u32| for_sound(a) || matches!(a, 0x00..=0x4C | 0x80..=0x98 | 0xA0..=0xB4 | 0xE0);
+    let addresses = || (0x00..=0xFC).step_by(4);
+    let three = addresses().filter(for_either).map(|a| (3, a));
+    let ten = addresses().filter(for_sound).map(|a| (10, a));
+    let missing = three.chain(ten).filter(|met| !bench.refusals.contains_key(met));
+    missing.map(|(number, a)| format!("refusal {number} with {a:02X}H")).collect()
+}

@@ -1,0 +1,9 @@
+//! Grey of a colour, a house rule.
+
+/// floor(17 (R + G + B) / 3), unsigned; bits above 11 play no part.
+pub fn grey(colour: u16) -> u8 {
+    let red = u32::from(colour) % 16;
+    let green = u32::from(colour) / 16 % 16;
+    let blue = u32::from(colour) / 256 % 16;
+    (17 * (red + green + blue) / 3) as u8
+}

@@ -1,0 +1,29 @@
+//! A second program for plates, written from the paper alone, one idea to a file.
+//! It is plain and slow on purpose: each function is one of the paper's sentences.
+
+pub mod address;
+pub mod cell;
+pub mod colour;
+pub mod frame;
+pub mod grey;
+pub mod load;
+pub mod marks;
+pub mod needed;
+pub mod pin;
+pub mod plate;
+pub mod raster;
+pub mod raster_words;
+pub mod record;
+pub mod refusal;
+pub mod setting;
+pub mod sound;
+pub mod sound_judge;
+pub mod text;
+
+#[cfg(against)]
+pub mod compare;
+#[cfg(against)]
+pub mod ours;
+
+#[cfg(test)]
+mod paper_tests;
