@@ -1,1 +1,3 @@
 pub mod Tens
+pub mod Lengths
+pub mod Stored

@@ -1,2 +1,3 @@
 // The run printer's text: numbers, runs and lines, byte for byte.
+mod line;
 mod number;

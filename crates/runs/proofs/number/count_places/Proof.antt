@@ -8,8 +8,6 @@ use mathlib.Core.Path.{_≡_, refl, sym, _∙_}
 use Prim.Native.Nat.{_-_, _≤_}
 use Rattle.runs.proofs.number.count_places.Statement.{statement}
 use Rattle.runs.proofs.number.count_places.Tie as tie
-use Rattle.runs.proofs.number.count_places.Reads as reads
-use Rattle.runs.proofs.number.count_places.Lts as lts
 
 abbrev Inv-loop : tie.InvT-loop
 Inv-loop n k₀ k = (1 ≤ k) × (k ≤ 10) × (places n ≡ lowest (fitsIn n) (10 - k) k)
@@ -17,35 +15,27 @@ Inv-loop n k₀ k = (1 ≤ k) × (k ≤ 10) × (places n ≡ lowest (fitsIn n) (
 abbrev μ-loop : tie.MeasureT-loop
 μ-loop n k₀ k = 10 - k
 
--- src/number.rt:16:5
 loop-holds : tie.Need-loop-holds Inv-loop μ-loop
 loop-holds c = (omega arith, omega arith, refl)
 
--- src/number.rt:17:16
 mul-if1 : tie.Need-mul-if1 Inv-loop μ-loop
 mul-if1 c = search needs
 
--- src/number.rt:17:16
 array-read-if1 : tie.Need-array-read-if1 Inv-loop μ-loop
 array-read-if1 c = search needs
 
--- src/number.rt:18:13
 returns : tie.Need-returns Inv-loop μ-loop
 returns c = sym (c .before .before .loop .inv .2 ∙ lowest-here (fitsIn (c .before .before .before .args .n)) 10 (c .before .before .loop .k) (omega arith) (fits-yes (c .before .before .before .args .n) (c .before .before .loop .k) (omega arith) (c .if1 .taken)))
 
--- src/number.rt:20:9
 add-k : tie.Need-add-k Inv-loop μ-loop
 add-k c = search needs
 
--- src/number.rt:16:5
 loop-less : tie.Need-loop-less Inv-loop μ-loop
 loop-less c = search needs
 
--- src/number.rt:16:5
 loop-again : tie.Need-loop-again Inv-loop μ-loop
 loop-again c = (omega arith, omega arith, c .before .before .loop .inv .2 ∙ lowest-more (fitsIn (c .before .before .before .args .n)) 10 (c .before .before .loop .k) (omega arith) (fits-no (c .before .before .before .args .n) (c .before .before .loop .k) (omega arith) (c .if1 .left)))
 
--- src/number.rt:12:1
 returns-2 : tie.Need-returns-2 Inv-loop μ-loop
 returns-2 c = sym (c .before .loop .inv .2 ∙ lowest-end (fitsIn (c .before .before .args .n)) 10 _ (omega arith))
 

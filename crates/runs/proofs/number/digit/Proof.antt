@@ -2,30 +2,22 @@ use Rattle.runs.proofs.Tens.{ten-at, ten-positive}
 use borrow.Author.Needs.{needs}
 use Rattle.runs.proofs.number.digit.Statement.{statement}
 use Rattle.runs.proofs.number.digit.Tie as tie
-use Rattle.runs.proofs.number.digit.Reads as reads
-use Rattle.runs.proofs.number.digit.Lts as lts
 
--- src/number.rt:30:15
 mul-result : tie.Need-mul-result
 mul-result c = search needs
 
--- src/number.rt:30:15
 array-read-result : tie.Need-array-read-result
 array-read-result c = search needs
 
--- src/number.rt:30:11
 div-result : tie.Need-div-result
 div-result c = ten-positive (c .args .k) (c .pre)
 
--- src/number.rt:30:6
 add-result : tie.Need-add-result
 add-result c = search needs
 
--- src/number.rt:30:5
 cast-result : tie.Need-cast-result
 cast-result c = search needs
 
--- src/number.rt:26:1
 returns : tie.Need-returns
 returns c = rw (ten-at (c .args .k) (c .pre))
 

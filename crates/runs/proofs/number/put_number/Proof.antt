@@ -9,10 +9,6 @@ use mathlib.Core.Path.{_≡_, refl, sym, _∙_}
 use Prim.Native.Nat.{_+_, _≤_}
 use Rattle.runs.proofs.number.put_number.Statement.{statement}
 use Rattle.runs.proofs.number.put_number.Tie as tie
-use Rattle.runs.proofs.number.put_number.Reads as reads
-use Rattle.runs.proofs.number.put_number.Lts as lts
-use Rattle.runs.proofs.number.count_places.Reads as count-places-reads
-use Rattle.runs.proofs.number.digit.Reads as digit-reads
 
 abbrev Inv-loop : tie.InvT-loop
 Inv-loop out₀ at n k₀ i₀ out k i =
@@ -21,44 +17,34 @@ Inv-loop out₀ at n k₀ i₀ out k i =
 abbrev μ-loop : tie.MeasureT-loop
 μ-loop out₀ at n k₀ i₀ out k i = k
 
--- src/number.rt:38:9
 count-places-requires : tie.Need-count-places-requires Inv-loop μ-loop
 count-places-requires c κs = search needs
 
--- src/number.rt:40:5
 loop-holds : tie.Need-loop-holds Inv-loop μ-loop
 unfolding decimal
 loop-holds c = (omega (arith, c .count-places .ensures, lowest-most (fitsIn (c .before .before .args .n)) 9 1), omega (arith, c .count-places .ensures), refl, rw (c .count-places .ensures))
 
--- src/number.rt:41:9
 sub-k : tie.Need-sub-k Inv-loop μ-loop
 sub-k c = search needs
 
--- src/number.rt:42:18
 digit-requires : tie.Need-digit-requires Inv-loop μ-loop
 digit-requires c κs = search needs
 
--- src/number.rt:42:9
 slice-write-out : tie.Need-slice-write-out Inv-loop μ-loop
 slice-write-out c = search needs
 
--- src/number.rt:43:9
 add-i : tie.Need-add-i Inv-loop μ-loop
 add-i c = search needs
 
--- src/number.rt:40:5
 loop-less : tie.Need-loop-less Inv-loop μ-loop
 loop-less c = search needs
 
--- src/number.rt:40:5
 loop-again : tie.Need-loop-again Inv-loop μ-loop
 loop-again c = (omega arith, omega arith, simp length-set (c .before .before .loop .inv .2), rw (c .digit .ensures) (sym (digits-turn (c .before .before .loop .out) (c .before .before .loop .i) _ (c .before .before .loop .k) (omega arith)) ∙ c .before .before .loop .inv .3))
 
--- src/number.rt:34:1
 same-length : tie.Need-same-length Inv-loop μ-loop
 same-length c = c .before .loop .inv .2
 
--- src/number.rt:34:1
 returns : tie.Need-returns Inv-loop μ-loop
 returns c = (omega arith, sym (digits-none (c .before .loop .out) (c .before .loop .i) (c .before .before .before .before .args .n) (c .before .loop .k) (omega arith)) ∙ c .before .loop .inv .3)
 
