@@ -1,0 +1,2 @@
+// The mark count: bright display cells, counted without a frame.
+pub mod answer;
