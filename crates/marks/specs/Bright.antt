@@ -10,7 +10,7 @@ use Rattle.registers.specs.declared.record.Registers.{Registers}
 use Rattle.registers.specs.declared.setting.Setting.{Setting}
 use Rattle.colours.specs.Colour.{colourOf}
 use Rattle.colours.specs.Grey.{greyOf}
-use Rattle.frame.specs.Pixel.{logical}
+use Rattle.frame.specs.Pixel.{pixel, logical}
 use Rattle.frame.specs.Cell.{plainCode, covered}
 use Rattle.marks.specs.Count.{total, bit}
 
@@ -32,6 +32,10 @@ fieldBright pixels d b j = getD pixels (field b d j) 0
 
 unfoldable pub byteBright : List ℕ → ℕ → ℕ → ℕ
 byteBright pixels d b = total (fieldBright pixels d b) (8 / d)
+
+-- Logical pixel i of a list of words.
+abbrev pub pixelBright : List ℕ → List ℕ → ℕ → ℕ → ℕ
+pixelBright pixels ws d i = getD pixels (pixel ws d i) 0
 
 -- A table of bytes, over the four bytes of a word, and over the words of a list.
 abbrev pub wordBright : List ℕ → ℕ → ℕ
