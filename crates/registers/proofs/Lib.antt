@@ -4,3 +4,4 @@ pub mod Tables
 pub mod Exactly
 pub mod Accepted
 pub mod Told
+pub mod Words
