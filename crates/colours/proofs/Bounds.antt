@@ -9,7 +9,7 @@ use Rattle.registers.specs.declared.record.Registers.{Registers}
 use Rattle.colours.specs.Colour.{mixed, colourOf}
 use Rattle.colours.specs.Grey.{greyOf}
 
-picked-below : (t : Bool) {a b m : ℕ} → a < m → b < m → pick t a b < m
+pub picked-below : (t : Bool) {a b m : ℕ} → a < m → b < m → pick t a b < m
 picked-below true ha hb = ha
 picked-below false ha hb = hb
 
