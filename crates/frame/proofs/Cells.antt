@@ -50,12 +50,16 @@ implied : (e a b : Bool) → (e ≡ true → a ≡ false) → (e ≡ true → b 
 implied true a b p q = rw (p refl, q refl)
 implied false a b p q = refl
 
-no : false ≡ true → ⊥
+pub no : false ≡ true → ⊥
 no e = subst (λ b. T (not b)) e tt
 
-both : (a b : Bool) → (a && b) ≡ true → (a ≡ true) × (b ≡ true)
+pub both : (a b : Bool) → (a && b) ≡ true → (a ≡ true) × (b ≡ true)
 both true b e = (refl, e)
 both false b e = (e, absurd (no e))
+
+pub unless : (b : Bool) → (b ≡ true → ⊥) → b ≡ false
+unless true h = absurd (h refl)
+unless false h = refl
 
 between : (from to k : ℕ) → within from to k ≡ true → (from ≤ k) × (k < to)
 between from to k e =
