@@ -9,12 +9,8 @@ use lib.ListN.{getD}
 use lib.Pow.{field as pow-field, mod-mod-pow, shr-shr}
 use Rattle.frame.proofs.Pixels.{pixel-in}
 use Rattle.marks.specs.Count.{total}
-use Rattle.marks.specs.Bright.{Tabled, field, fieldBright, byteBright, pixelBright, wordBright, wordAt}
+use Rattle.marks.specs.Bright.{Depth, Tabled, field, fieldBright, byteBright, pixelBright, wordBright, wordAt}
 use Rattle.marks.proofs.Totals.{total-as, total-rows}
-
--- The depths that divide a byte.
-abbrev pub Depth : ℕ → Type 0
-Depth d = (d ≡ 1) ⊎ ((d ≡ 2) ⊎ ((d ≡ 4) ⊎ (d ≡ 8)))
 
 pub depth-eight : (d : ℕ) → Depth d → 8 / d * d ≡ 8
 depth-eight d h = ⊎-elim (λ e. rw e) (⊎-elim (λ e. rw e) (⊎-elim (λ e. rw e) (λ e. rw e))) h

@@ -1,20 +1,21 @@
 -- The mark count of an accepted setting, from the sum over its words and the sum over its cursor.
 use Prim.Native.Nat.{ℕ, _+_, _*_, _-_, _/_, _<_}
-use mathlib.Core.Bool.{true, false}
+use mathlib.Core.Bool.{Bool, true, false}
 use mathlib.Core.List.{List}
 use mathlib.Core.Path.{_≡_, refl, sym, _∙_, ap}
 use native.Mathlib.Nat.{mul-assoc, mul-div-cancel}
 use native.Mathlib.Omega.{arith}
 use lib.ListN.{length}
+use Rattle.buffers.specs.Pick.{pick}
 use Rattle.registers.specs.Setting.{displayOn, videoWords}
 use Rattle.registers.specs.declared.record.Registers.{Registers}
 use Rattle.registers.specs.declared.setting.Setting.{Setting}
 use Rattle.registers.proofs.Accepted.{Accepted}
-use Rattle.registers.proofs.Words.{rasterWords, raster-bits, video-on}
+use Rattle.registers.proofs.Words.{rasterWords, raster-bits, video-on, video-off}
 use Rattle.marks.specs.Count.{total}
 use Rattle.marks.specs.Marks.{marksOf}
-use Rattle.marks.specs.Bright.{Tabled, bright, byteBright, pixelBright, wordAt, coveredBright, cursorRaster}
-use Rattle.marks.proofs.Bytes.{Depth, depth-eight, depth-least, words-total}
+use Rattle.marks.specs.Bright.{Tabled, bright, byteBright, pixelBright, wordAt, coveredBright, cursorRaster, coveredAll}
+use Rattle.marks.proofs.Bytes.{depth-eight, depth-least, words-total}
 use Rattle.marks.proofs.Points.{markIn, displayBright, point}
 use Rattle.marks.proofs.Rows.{rowsTotal, marks-rows, rows-add, display-total, display-off, covered-total, covered-off}
 
@@ -40,19 +41,20 @@ module _ (s : Setting) (a : Accepted s) where
         ∙ rows-add s (markIn g s video cursor threshold) (coveredBright s video cursor pixels) (displayBright s video pixels)
         (λ y x. point g s video cursor threshold x y pixels a t)
 
-    pub marks-off : displayOn s ≡ false → marksOf g s video cursor threshold ≡ 0
-    marks-off off = omega (arith, marks-covered, display-off s a video cursor pixels off)
-
-    module _ (bytes : List ℕ) (u : Tabled bytes 256 (byteBright pixels (s .depth))) (on : displayOn s ≡ true) (e : length video ≡ videoWords s) where
-      display-bright : rowsTotal s (displayBright s video pixels) ≡ total (wordAt bytes video) (length video)
-      display-bright =
+    module _ (bytes : List ℕ) (u : Tabled bytes 256 (byteBright pixels (s .depth))) (e : length video ≡ videoWords s) where
+      display-bright : (on : Bool) → displayOn s ≡ on → rowsTotal s (displayBright s video pixels) ≡ total (wordAt bytes video) (length video)
+      unfolding total
+      display-bright true on =
           display-total s a video cursor pixels on
           ∙ ap (total (pixelBright pixels video (s .depth))) (display-pixels (length video) on e)
           ∙ words-total pixels bytes (s .depth) (a .depth) u video (length video)
+      display-bright false off = display-off s a video cursor pixels off ∙ sym (ap (total (wordAt bytes video)) (e ∙ video-off s off))
 
-      pub marks-bare : s .cursor ≡ false → marksOf g s video cursor threshold ≡ total (wordAt bytes video) (length video)
-      marks-bare off = omega (arith, marks-covered, display-bright, covered-off s a video cursor pixels off)
+      cursor-bright : (on : Bool) → s .cursor ≡ on
+          → rowsTotal s (coveredBright s video cursor pixels) ≡ pick on (total (cursorRaster s video cursor pixels) (s .vce .0 - s .vcs .0)) 0
+      cursor-bright true on = covered-total s a video cursor pixels on
+      cursor-bright false off = covered-off s a video cursor pixels off
 
-      pub marks-cursor : s .cursor ≡ true
-          → marksOf g s video cursor threshold + total (cursorRaster s video cursor pixels) (s .vce .0 - s .vcs .0) ≡ total (wordAt bytes video) (length video)
-      marks-cursor c = omega (arith, marks-covered, display-bright, covered-total s a video cursor pixels c)
+      pub counted : marksOf g s video cursor threshold + coveredAll s video cursor pixels ≡ total (wordAt bytes video) (length video)
+      unfolding coveredAll
+      counted = omega (arith, marks-covered, display-bright (displayOn s) refl, cursor-bright (s .cursor) refl)

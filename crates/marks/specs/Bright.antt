@@ -1,13 +1,16 @@
 -- What the functions inside count: bright pixels by a table, and those of them that the cursor covers.
-use Prim.Native.Nat.{ℕ, _+_, _*_, _-_, _/_, _%_, _^_, _<_}
+use Prim.Native.Nat.{ℕ, _+_, _*_, _-_, _/_, _%_, _^_, _<_, _≤_}
 use mathlib.Core.Bool.{Bool, _&&_}
 use mathlib.Core.List.{List}
+use mathlib.Core.Logic.{_⊎_}
 use mathlib.Core.Path.{_≡_}
 use lib.ListN.{length, getD}
 use lib.Dec.{leb, eqb}
 use Rattle.buffers.specs.Pick.{pick}
 use Rattle.registers.specs.declared.record.Registers.{Registers}
 use Rattle.registers.specs.declared.setting.Setting.{Setting}
+use Rattle.registers.specs.Setting.{videoWords, cursorWords}
+use Rattle.registers.proofs.Accepted.{Accepted}
 use Rattle.colours.specs.Colour.{colourOf}
 use Rattle.colours.specs.Grey.{greyOf}
 use Rattle.frame.specs.Pixel.{pixel, logical}
@@ -22,6 +25,13 @@ bright g d threshold p = bit (leb threshold (greyOf (colourOf g d p)))
 pub record Tabled (table : List ℕ) (n : ℕ) (f : ℕ → ℕ) : Type 0 where
   pub len : length table ≡ 256
   pub on : (k : ℕ) → k < n → getD table k 0 ≡ f k
+
+pub record AtMost (table : List ℕ) (m : ℕ) : Type 0 where
+  pub most : (k : ℕ) → getD table k 0 ≤ m
+
+-- The depths.
+abbrev pub Depth : ℕ → Type 0
+Depth d = (d ≡ 1) ⊎ ((d ≡ 2) ⊎ ((d ≡ 4) ⊎ (d ≡ 8)))
 
 -- The table's sum over the pixels of a byte, lowest bits first.
 abbrev pub field : ℕ → ℕ → ℕ → ℕ
@@ -59,3 +69,13 @@ rasterBright s video cursor pixels y = total (cursorBright s video cursor pixels
 
 unfoldable pub cursorRaster : Setting → List ℕ → List ℕ → List ℕ → ℕ → ℕ
 cursorRaster s video cursor pixels j = rasterBright s video cursor pixels (s .vcs .0 + j)
+
+-- All that the cursor covers, where it is on.
+unfoldable pub coveredAll : Setting → List ℕ → List ℕ → List ℕ → ℕ
+coveredAll s video cursor pixels = pick (s .cursor) (total (cursorRaster s video cursor pixels) (s .vce .0 - s .vcs .0)) 0
+
+-- An accepted setting, with as many words as it needs.
+pub record Ready (s : Setting) (video cursor : List ℕ) : Type 0 where
+  pub accepted : Accepted s
+  pub video-words : length video ≡ videoWords s
+  pub cursor-words : length cursor ≡ cursorWords s

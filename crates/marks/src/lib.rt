@@ -1,2 +1,5 @@
 // The mark count: bright display cells, counted without a frame.
 pub mod answer;
+mod pixels;
+mod tables;
+mod walk;

@@ -1,0 +1,63 @@
+use Rattle.marks.proofs.walk.in_words.Statement.{statement}
+use Rattle.marks.proofs.walk.in_words.Tie as tie
+use Rattle.marks.proofs.walk.in_words.Reads as reads
+use Rattle.marks.proofs.walk.in_words.Lts as lts
+use Rattle.marks.proofs.walk.in_word.Reads as in-word-reads
+
+abbrev Inv-loop : tie.InvT-loop
+Inv-loop bytes words sum₀ k₀ sum k = ?
+
+abbrev μ-loop : tie.MeasureT-loop
+μ-loop bytes words sum₀ k₀ sum k = ?
+
+-- src/walk.rt:29:5
+loop-holds : tie.Need-loop-holds Inv-loop μ-loop
+loop-holds c = ?
+
+-- src/walk.rt:30:31
+mul-in-word : tie.Need-mul-in-word Inv-loop μ-loop
+mul-in-word c = ?
+
+-- src/walk.rt:30:31
+shared-slice-read-in-word : tie.Need-shared-slice-read-in-word Inv-loop μ-loop
+shared-slice-read-in-word c = ?
+
+-- src/walk.rt:30:16
+in-word-requires : tie.Need-in-word-requires Inv-loop μ-loop
+in-word-requires c κs = ?
+
+-- src/walk.rt:30:9
+add-sum : tie.Need-add-sum Inv-loop μ-loop
+add-sum c = ?
+
+-- src/walk.rt:31:9
+add-k : tie.Need-add-k Inv-loop μ-loop
+add-k c = ?
+
+-- src/walk.rt:29:5
+loop-less : tie.Need-loop-less Inv-loop μ-loop
+loop-less c = ?
+
+-- src/walk.rt:29:5
+loop-again : tie.Need-loop-again Inv-loop μ-loop
+loop-again c = ?
+
+-- src/walk.rt:23:1
+returns : tie.Need-returns Inv-loop μ-loop
+returns c = ?
+
+pub in-words-spec : {M : Type 1} → statement M
+in-words-spec =
+    tie.close
+    (tie.spec
+    Inv-loop
+    μ-loop
+    loop-holds
+    mul-in-word
+    shared-slice-read-in-word
+    in-word-requires
+    add-sum
+    add-k
+    loop-less
+    loop-again
+    returns)
