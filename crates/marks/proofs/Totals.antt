@@ -10,6 +10,10 @@ pub total-more : (f : ℕ → ℕ) (n : ℕ) → total f (n + 1) ≡ total f n +
 unfolding total
 total-more f n = rw add-one
 
+-- A loop's sum, one term further.
+pub sum-more : {sum v : ℕ} (f : ℕ → ℕ) (n : ℕ) → sum ≡ total f n → v ≡ f n → sum + v ≡ total f (n + 1)
+sum-more f n e h = rw (total-more f n, e, h)
+
 pub total-as : (f h : ℕ → ℕ) (n : ℕ) → ((k : ℕ) → k < n → f k ≡ h k) → total f n ≡ total h n
 unfolding total
 total-as f h zero e = refl
