@@ -79,3 +79,9 @@ pub record Ready (s : Setting) (video cursor : List ℕ) : Type 0 where
   pub accepted : Accepted s
   pub video-words : length video ≡ videoWords s
   pub cursor-words : length cursor ≡ cursorWords s
+
+-- Cursor raster j is there, and displayed.
+pub record OnCursor (s : Setting) (cursor : List ℕ) (j : ℕ) : Type 0 where
+  pub here : j < length cursor / 2
+  pub vds-y : s .vds .0 ≤ s .vcs .0 + j
+  pub y-vde : s .vcs .0 + j < s .vde .0

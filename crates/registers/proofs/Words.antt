@@ -42,3 +42,19 @@ video-off s off = rw off
 pub cursor-on : (s : Setting) → s .cursor ≡ true → cursorWords s ≡ 2 * (s .vce .0 - s .vcs .0)
 unfolding cursorWords
 cursor-on s on = rw on
+
+pub cursor-off : (s : Setting) → s .cursor ≡ false → cursorWords s ≡ 0
+unfolding cursorWords
+cursor-off s off = rw off
+
+-- A cursor raster that has words is one of an on cursor.
+pub record CursorRaster (s : Setting) (j : ℕ) : Type 0 where
+  pub on : s .cursor ≡ true
+  pub before-end : s .vcs .0 + j < s .vce .0
+
+cursor-raster-by : (s : Setting) (j : ℕ) (on : Bool) → s .cursor ≡ on → j < cursorWords s / 2 → CursorRaster s j
+cursor-raster-by s j true on l = record { on = on; before-end = omega (arith, cursor-on s on) }
+cursor-raster-by s j false off l = absurd (omega (arith, cursor-off s off))
+
+pub cursor-raster : (s : Setting) (j : ℕ) → j < cursorWords s / 2 → CursorRaster s j
+cursor-raster s j l = cursor-raster-by s j (s .cursor) refl l
