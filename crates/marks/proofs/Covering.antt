@@ -12,15 +12,17 @@ use lib.ListN.{length, getD}
 use lib.Pow.{pow-mono}
 use Rattle.buffers.specs.Pick.{pick}
 use Rattle.buffers.proofs.Product.{product-below}
-use Rattle.registers.specs.Setting.{videoWords}
+use Rattle.registers.specs.Setting.{videoWords, cursorWords}
 use Rattle.registers.specs.declared.setting.Setting.{Setting}
 use Rattle.registers.proofs.Accepted.{Accepted}
-use Rattle.registers.proofs.Words.{rasterWords, raster-bits, depth-most, video-on, cursor-raster}
+use Rattle.registers.proofs.Words.{rasterWords, raster-bits, depth-most, video-on, cursor-on, cursor-off, cursor-raster}
 use Rattle.frame.specs.Pixel.{pixel, position, logical, cursorPair}
 use Rattle.frame.specs.Cell.{inDisplay, plainCode, covered}
 use Rattle.frame.proofs.Pixels.{pixel-below}
 use Rattle.frame.proofs.Cells.{no, both, unless, Displayed, Covered, displayed, in-display, is-covered, five-covered, plain-five}
-use Rattle.marks.specs.Bright.{Ready, OnCursor, coveredBright, cursorBright}
+use Rattle.marks.specs.Bright.{Ready, OnCursor, coveredBright, cursorBright, rasterBright, cursorRaster, coveredAll}
+use Rattle.marks.specs.Count.{total}
+use Rattle.marks.proofs.Totals.{total-none}
 use Rattle.marks.proofs.Bytes.{depth-least}
 
 module _ (s : Setting) (x y : ℕ) (a : Accepted s) (h : Displayed s x y) where
@@ -57,12 +59,12 @@ module _ (s : Setting) (video cursor pixels : List ℕ) (a : Accepted s) (y i : 
 
   pub cursor-clear : cursorPair s cursor y i ≡ 0 → 0 ≡ cursorBright s video cursor pixels y i
   unfolding cursorBright
-  cursor-clear e = 
+  cursor-clear e =
       let x = s .cx .0 + i in
       let back : cursorPair s cursor y (x - s .cx .0) ≡ 0 = ap (cursorPair s cursor y) (add-sub-cancel-left (s .cx .0) i) ∙ e in
       let off : (eqb (plainCode s x y) 5 && covered s cursor x y) ≡ false =
-          unless (eqb (plainCode s x y) 5 && covered s cursor x y)
-          (λ t. no (sym (is-covered s x y cursor (both (eqb (plainCode s x y) 5) (covered s cursor x y) t .1) .shown) ∙ eq-eqb (cursorPair s cursor y (x - s .cx .0)) 0 back)) in
+      unless (eqb (plainCode s x y) 5 && covered s cursor x y)
+      (λ t. no (sym (is-covered s x y cursor (both (eqb (plainCode s x y) 5) (covered s cursor x y) t .1) .shown) ∙ eq-eqb (cursorPair s cursor y (x - s .cx .0)) 0 back)) in
       rw off
 
   pub cursor-shown : Displayed s (s .cx .0 + i) y → Covered s cursor (s .cx .0 + i) y
@@ -99,7 +101,7 @@ module _ (s : Setting) (cursor : List ℕ) (j : ℕ) where
     raster-covered i r l h =
         let c = cursor-raster s j (rw (r .cursor-words) at (o .here)) in
         let back : cursorPair s cursor (s .vcs .0 + j) (s .cx .0 + i - s .cx .0) ≡ cursorPair s cursor (s .vcs .0 + j) i =
-            ap (cursorPair s cursor (s .vcs .0 + j)) (add-sub-cancel-left (s .cx .0) i) in
+        ap (cursorPair s cursor (s .vcs .0 + j)) (add-sub-cancel-left (s .cx .0) i) in
         record {
           on = c .on;
           vcs-y = omega arith;
@@ -108,3 +110,31 @@ module _ (s : Setting) (cursor : List ℕ) (j : ℕ) where
           x-end = omega arith;
           shown = ne-eqb (cursorPair s cursor (s .vcs .0 + j) (s .cx .0 + i - s .cx .0)) 0 (λ e. h (sym back ∙ e));
         }
+
+module _ (s : Setting) (video cursor pixels : List ℕ) (a : Accepted s) where
+  pub raster-out : (j : ℕ) → ((x : ℕ) → Displayed s x (s .vcs .0 + j) → ⊥) → 0 ≡ cursorRaster s video cursor pixels j
+  unfolding cursorRaster rasterBright
+  raster-out j h =
+      sym (total-none (cursorBright s video cursor pixels (s .vcs .0 + j)) 32
+      (λ i l. sym (cursor-out s video cursor pixels a (s .vcs .0 + j) i (h (s .cx .0 + i)))))
+
+  covered-by : (on : Bool) → s .cursor ≡ on → length cursor ≡ cursorWords s
+      → total (cursorRaster s video cursor pixels) (length cursor / 2) ≡ pick on (total (cursorRaster s video cursor pixels) (s .vce .0 - s .vcs .0)) 0
+  unfolding total
+  covered-by true on e =
+      let end : length cursor / 2 ≡ s .vce .0 - s .vcs .0 = omega (arith, e ∙ cursor-on s on) in
+      ap (total (cursorRaster s video cursor pixels)) end
+  covered-by false off e =
+      let end : length cursor / 2 ≡ 0 = omega (arith, e ∙ cursor-off s off) in
+      ap (total (cursorRaster s video cursor pixels)) end
+
+  pub covered-words : length cursor ≡ cursorWords s → total (cursorRaster s video cursor pixels) (length cursor / 2) ≡ coveredAll s video cursor pixels
+  unfolding coveredAll
+  covered-words e = covered-by (s .cursor) refl e
+
+  cursor-most-by : (on : Bool) → s .cursor ≡ on → length cursor ≡ cursorWords s → length cursor / 2 ≤ 1024
+  cursor-most-by true on e = omega (arith, e ∙ cursor-on s on, a .cursor on, a .v-most)
+  cursor-most-by false off e = omega (arith, e ∙ cursor-off s off)
+
+  pub cursor-most : length cursor ≡ cursorWords s → length cursor / 2 ≤ 1024
+  cursor-most e = cursor-most-by (s .cursor) refl e

@@ -21,8 +21,8 @@ tabled-more {table} {k} {v} {f} t l e =
     record {
       len = length-set table k v ∙ t .len;
       on = below-more (λ i. getD (set table k v) i 0 ≡ f i) k
-        (λ i m. getD-set-other table k i v 0 (λ q. omega arith) ∙ t .on i m)
-        (getD-set-same table k v 0 (omega (arith, t .len)) ∙ e);
+          (λ i m. getD-set-other table k i v 0 (λ q. omega arith) ∙ t .on i m)
+          (getD-set-same table k v 0 (omega (arith, t .len)) ∙ e);
     }
 
 module _ (g : Registers) (d threshold p c r : ℕ) (e : c ≡ colourOf g d p) (f : r ≡ greyOf c) where

@@ -37,7 +37,14 @@ fn pair_at(cursor: &[u32], j: usize, i: usize) -> u32
 }
 
 // Position i of cursor raster j, which is displayed: what the table has for the pixel there, if the cursor covers it.
-fn covered_at(s: Setting, video: &[u32], cursor: &[u32], pixels: &[u8; 256], j: usize, i: usize) -> u32
+fn covered_at(
+    s: Setting,
+    video: &[u32],
+    cursor: &[u32],
+    pixels: &[u8; 256],
+    j: usize,
+    i: usize,
+) -> u32
     requires { ⌜ Ready s (now video) (now cursor) × OnCursor s (now cursor) j × (i < 32) ⌝ }
     ensures { λ r. ⌜ (r ≡ cursorBright s (now (video .entry)) (now (cursor .entry)) (now (pixels .entry)) (s .vcs .0 + j) i) × (r ≤ 255) ⌝ }
 {
@@ -52,4 +59,40 @@ fn covered_at(s: Setting, video: &[u32], cursor: &[u32], pixels: &[u8; 256], j: 
         return 0;
     }
     shown_at(s, video, pixels, x, s.vcs.0 as usize + j)
+}
+
+// Cursor raster j: the sum over its 32 positions.
+fn covered_in(s: Setting, video: &[u32], cursor: &[u32], pixels: &[u8; 256], j: usize) -> u32
+    requires { ⌜ Ready s (now video) (now cursor) × (j < length (now cursor) / 2) ⌝ }
+    ensures { λ r. ⌜ (r ≡ cursorRaster s (now (video .entry)) (now (cursor .entry)) (now (pixels .entry)) j) × (r ≤ 8160) ⌝ }
+{
+    let y = s.vcs.0 as usize + j;
+    if y < s.vds.0 as usize {
+        return 0;
+    }
+    if y >= s.vde.0 as usize {
+        return 0;
+    }
+    let mut sum: u32 = 0;
+    let mut i: usize = 0;
+    while i < 32 {
+        sum += covered_at(s, video, cursor, pixels, j, i);
+        i += 1;
+    }
+    sum
+}
+
+// All that the cursor covers: two words a raster, and none where it is off.
+pub fn covered(s: Setting, video: &[u32], cursor: &[u32], pixels: &[u8; 256]) -> u32
+    requires { ⌜ Ready s (now video) (now cursor) ⌝ }
+    ensures { λ r. ⌜ r ≡ coveredAll s (now (video .entry)) (now (cursor .entry)) (now (pixels .entry)) ⌝ }
+{
+    let end = cursor.len() / 2;
+    let mut sum: u32 = 0;
+    let mut j: usize = 0;
+    while j < end {
+        sum += covered_in(s, video, cursor, pixels, j);
+        j += 1;
+    }
+    sum
 }

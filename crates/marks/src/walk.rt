@@ -23,7 +23,8 @@ pub fn entry(table: &[u8; 256], at: usize) -> u32
 fn in_word(bytes: &[u8; 256], word: u32) -> u32
     ensures { λ r. ⌜ (r ≡ wordBright (now (bytes .entry)) word) × (r ≤ 1020) ⌝ }
 {
-    entry(bytes, (word % 256) as usize) + entry(bytes, (word / 0x100 % 256) as usize)
+    entry(bytes, (word % 256) as usize)
+        + entry(bytes, (word / 0x100 % 256) as usize)
         + entry(bytes, (word / 0x1_0000 % 256) as usize)
         + entry(bytes, (word / 0x100_0000 % 256) as usize)
 }

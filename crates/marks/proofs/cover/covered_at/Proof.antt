@@ -58,20 +58,22 @@ add-shown-at c = let s = c .before .before .before .before .before .before .befo
 -- src/cover.rt:54:5
 shown-at-requires : tie.Need-shown-at-requires
 shown-at-requires c κs =
-    let s = c .before .before .before .before .before .before .before .before .before .before in
-    (s .pre .0 .accepted,
-    raster-displayed _ _ _ (s .pre .1) _ (c .before .before .before .before .before .if1 .left) (c .before .before .before .if2 .left),
-    s .pre .0 .video-words)
+    let s = c .before .before .before .before .before .before .before .before .before .before in (
+      s .pre .0 .accepted,
+      raster-displayed _ _ _ (s .pre .1) _ (c .before .before .before .before .before .if1 .left) (c .before .before .before .if2 .left),
+      s .pre .0 .video-words,
+    )
 
 -- src/cover.rt:40:1
 returns-4 : tie.Need-returns-4
 returns-4 c =
-    let s = c .before .before .before .before .before .before .before .before .before .before .before in
-    (c .shown-at .ensures .0
-    ∙ cursor-shown _ _ _ _ (s .pre .0 .accepted) _ _
-    (raster-displayed _ _ _ (s .pre .1) _ (c .before .before .before .before .before .before .if1 .left) (c .before .before .before .before .if2 .left))
-    (raster-covered _ _ _ (s .pre .1) _ (s .pre .0) (s .pre .2) (λ e. c .before .before .if3 .left (c .before .before .before .pair-at .ensures ∙ sym (pair-is _ _ _ _) ∙ e))),
-    c .shown-at .ensures .1)
+    let s = c .before .before .before .before .before .before .before .before .before .before .before in (
+      c .shown-at .ensures .0
+          ∙ cursor-shown _ _ _ _ (s .pre .0 .accepted) _ _
+          (raster-displayed _ _ _ (s .pre .1) _ (c .before .before .before .before .before .before .if1 .left) (c .before .before .before .before .if2 .left))
+          (raster-covered _ _ _ (s .pre .1) _ (s .pre .0) (s .pre .2) (λ e. c .before .before .if3 .left (c .before .before .before .pair-at .ensures ∙ sym (pair-is _ _ _ _) ∙ e))),
+      c .shown-at .ensures .1,
+    )
 
 pub covered-at-spec : {M : Type 1} → statement M
 covered-at-spec =

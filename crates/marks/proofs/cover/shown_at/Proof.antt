@@ -24,10 +24,11 @@ cast-pixel-at c = omega (arith, depth-most _ (c .before .before .before .pre .0)
 -- src/cover.rt:28:19
 pixel-at-requires : tie.Need-pixel-at-requires
 pixel-at-requires c κs =
-    let s = c .before .before .before in
-    (s .pre .0 .depth,
-    rw (c .before .place .ensures) (pixel-room _ _ _ (s .pre .0) (s .pre .1) _ (s .pre .2)),
-    rw (c .before .place .ensures) (position-small _ _ _ (s .pre .0) (s .pre .1)))
+    let s = c .before .before .before in (
+      s .pre .0 .depth,
+      rw (c .before .place .ensures) (pixel-room _ _ _ (s .pre .0) (s .pre .1) _ (s .pre .2)),
+      rw (c .before .place .ensures) (position-small _ _ _ (s .pre .0) (s .pre .1)),
+    )
 
 -- src/cover.rt:28:5
 entry-requires : tie.Need-entry-requires
@@ -36,10 +37,11 @@ entry-requires c κs = rw (c .pixel-at .ensures) (pixel-entry _ _ _ (c .before .
 -- src/cover.rt:23:1
 returns : tie.Need-returns
 returns c =
-    let s = c .before .before .before .before .before in
-    (c .entry .ensures .0
-    ∙ ap (λ p. getD (s .args .pixels .now) p 0) (c .before .pixel-at .ensures ∙ ap (pixel (s .args .video .now) (s .args .s .depth)) (c .before .before .before .place .ensures)),
-    c .entry .ensures .1)
+    let s = c .before .before .before .before .before in (
+      c .entry .ensures .0
+          ∙ ap (λ p. getD (s .args .pixels .now) p 0) (c .before .pixel-at .ensures ∙ ap (pixel (s .args .video .now) (s .args .s .depth)) (c .before .before .before .place .ensures)),
+      c .entry .ensures .1,
+    )
 
 pub shown-at-spec : {M : Type 1} → statement M
 shown-at-spec =

@@ -41,11 +41,12 @@ add-sum : tie.Need-add-sum Inv-loop μ-loop
 add-sum c =
     let s = c .before .before .before .before in
     let l = c .before .before .before .loop in
-    omega
-    (arith,
-    byte-most (s .args .pixels .now) (s .args .depth) (s .args .byte) (l .j) (s .pre .1),
-    s .pre .1 .most (c .before .low-bits .result),
-    div-le-self 8 (s .args .depth))
+    omega (
+      arith,
+      byte-most (s .args .pixels .now) (s .args .depth) (s .args .byte) (l .j) (s .pre .1),
+      s .pre .1 .most (c .before .low-bits .result),
+      div-le-self 8 (s .args .depth),
+    )
 
 -- src/tables.rt:43:16
 shr-rest : tie.Need-shr-rest Inv-loop μ-loop
@@ -63,10 +64,11 @@ loop-less c = omega arith
 loop-again : tie.Need-loop-again Inv-loop μ-loop
 loop-again c =
     let s = c .before .before .before .before in
-    let l = c .before .before .before .loop in
-    (omega arith,
-    byte-rest (s .args .pixels .now) _ _ _ _ (l .inv .1),
-    byte-more (s .args .pixels .now) _ _ _ _ _ _ (l .inv .1) (l .inv .2) (c .before .low-bits .ensures))
+    let l = c .before .before .before .loop in (
+      omega arith,
+      byte-rest (s .args .pixels .now) _ _ _ _ (l .inv .1),
+      byte-more (s .args .pixels .now) _ _ _ _ _ _ (l .inv .1) (l .inv .2) (c .before .low-bits .ensures),
+    )
 
 -- src/tables.rt:33:1
 returns : tie.Need-returns Inv-loop μ-loop
