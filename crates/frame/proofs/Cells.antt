@@ -8,6 +8,7 @@ use lib.Arith.{digits-div, digits-mod}
 use lib.Dec.{T, ltb, leb, eqb}
 use borrow.Author.Tests.{leb-true, le-leb, le-ltb, lt-ltb, ltb-true, not-true}
 use Rattle.buffers.specs.Pick.{pick}
+use Rattle.buffers.proofs.Tests.{and-split}
 use Rattle.registers.specs.Setting.{displayOn}
 use Rattle.registers.specs.Colours.{borderOf, cursorOf}
 use Rattle.registers.specs.declared.record.Registers.{Registers}
@@ -50,20 +51,9 @@ implied : (e a b : Bool) → (e ≡ true → a ≡ false) → (e ≡ true → b 
 implied true a b p q = rw (p refl, q refl)
 implied false a b p q = refl
 
-pub no : false ≡ true → ⊥
-no e = subst (λ b. T (not b)) e tt
-
-pub both : (a b : Bool) → (a && b) ≡ true → (a ≡ true) × (b ≡ true)
-both true b e = (refl, e)
-both false b e = (e, absurd (no e))
-
-pub unless : (b : Bool) → (b ≡ true → ⊥) → b ≡ false
-unless true h = absurd (h refl)
-unless false h = refl
-
 between : (from to k : ℕ) → within from to k ≡ true → (from ≤ k) × (k < to)
 between from to k e =
-    (leb-true from k (both (leb from k) (ltb k to) e .0), ltb-true k to (both (leb from k) (ltb k to) e .1))
+    (leb-true from k (and-split (leb from k) (ltb k to) e .0), ltb-true k to (and-split (leb from k) (ltb k to) e .1))
 
 betweens : (from to k : ℕ) → from ≤ k → k < to → within from to k ≡ true
 betweens from to k a b = rw (le-leb from k a, lt-ltb k to b)
@@ -92,8 +82,8 @@ pub record Covered (s : Setting) (cursor : List ℕ) (x y : ℕ) : Type 0 where
 module _ (s : Setting) (x y : ℕ) where
   pub displayed : inDisplay s x y ≡ true → Displayed s x y
   displayed e =
-      let p = both (displayOn s && within (s .ds .0) (s .de .0) x) (within (s .vds .0) (s .vde .0) y) e in
-      let q = both (displayOn s) (within (s .ds .0) (s .de .0) x) (p .0) in
+      let p = and-split (displayOn s && within (s .ds .0) (s .de .0) x) (within (s .vds .0) (s .vde .0) y) e in
+      let q = and-split (displayOn s) (within (s .ds .0) (s .de .0) x) (p .0) in
       let h = between (s .ds .0) (s .de .0) x (q .1) in
       let v = between (s .vds .0) (s .vde .0) y (p .1) in
       record { on = q .0; ds-x = h .0; x-de = h .1; vds-y = v .0; y-vde = v .1 }
@@ -116,10 +106,10 @@ module _ (s : Setting) (x y : ℕ) where
     pub is-covered : covered s cursor x y ≡ true → Covered s cursor x y
     unfolding covered
     is-covered e =
-        let o = both (leb 4 (plainCode s x y) && inCursor s x y) (not (eqb (cursorPair s cursor y (x - s .cx .0)) 0)) e in
-        let p = both (leb 4 (plainCode s x y)) (inCursor s x y) (o .0) in
-        let q = both (s .cursor && within (s .vcs .0) (s .vce .0) y) (within (s .cx .0) (s .cx .0 + 32) x) (p .1) in
-        let r = both (s .cursor) (within (s .vcs .0) (s .vce .0) y) (q .0) in
+        let o = and-split (leb 4 (plainCode s x y) && inCursor s x y) (not (eqb (cursorPair s cursor y (x - s .cx .0)) 0)) e in
+        let p = and-split (leb 4 (plainCode s x y)) (inCursor s x y) (o .0) in
+        let q = and-split (s .cursor && within (s .vcs .0) (s .vce .0) y) (within (s .cx .0) (s .cx .0 + 32) x) (p .1) in
+        let r = and-split (s .cursor) (within (s .vcs .0) (s .vce .0) y) (q .0) in
         let v = between (s .vcs .0) (s .vce .0) y (r .1) in
         let h = between (s .cx .0) (s .cx .0 + 32) x (q .1) in
         record {

@@ -7,16 +7,15 @@ use native.Mathlib.Nat.{add-mul, mul-assoc, mod-lt, div-one, mul-le-mul-right}
 use native.Mathlib.Omega.{arith}
 use lib.ListN.{getD}
 use lib.Pow.{field as pow-field, mod-mod-pow, shr-shr}
+use Rattle.registers.proofs.Accepted.{Depth}
+use Rattle.registers.proofs.Words.{depth-least}
 use Rattle.frame.proofs.Pixels.{pixel-in}
 use Rattle.marks.specs.Count.{total}
-use Rattle.marks.specs.Bright.{Depth, Tabled, field, fieldBright, byteBright, pixelBright, wordBright, wordAt}
+use Rattle.marks.specs.Bright.{Tabled, field, fieldBright, byteBright, pixelBright, wordBright, wordAt}
 use Rattle.marks.proofs.Totals.{total-as, total-rows}
 
 pub depth-eight : (d : ℕ) → Depth d → 8 / d * d ≡ 8
 depth-eight d h = ⊎-elim (λ e. rw e) (⊎-elim (λ e. rw e) (⊎-elim (λ e. rw e) (λ e. rw e))) h
-
-pub depth-least : (d : ℕ) → Depth d → 0 < d
-depth-least d h = ⊎-elim (λ e. omega arith) (⊎-elim (λ e. omega arith) (⊎-elim (λ e. omega arith) (λ e. omega arith))) h
 
 -- The pixels of x that lie in its low byte.
 low-field : (x k d : ℕ) → k + d ≤ 8 → x % 256 / 2 ^ k % 2 ^ d ≡ x / 2 ^ k % 2 ^ d
@@ -59,7 +58,7 @@ module _ (pixels bytes : List ℕ) (d : ℕ) (h : Depth d) (t : Tabled bytes 256
   word-pixel ws q j l =
       let all : 4 * (8 / d) * d ≡ 32 = omega (arith, mul-assoc 4 (8 / d) d, depth-eight d h) in
       let bits : (q * (4 * (8 / d)) + j) * d ≡ q * 32 + j * d = rw (add-mul, mul-assoc, all) in
-      let room : j * d < 32 = omega (arith, mul-le-mul-right d l, add-mul j 1 d, depth-least d h) in
+      let room : j * d < 32 = omega (arith, mul-le-mul-right d l, add-mul j 1 d, depth-least h) in
       ap (λ p. getD pixels p 0) (pixel-in ws d (q * (4 * (8 / d)) + j) q (j * d) bits room)
 
   -- The bright pixels of m words.

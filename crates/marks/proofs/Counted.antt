@@ -10,12 +10,12 @@ use Rattle.buffers.specs.Pick.{pick}
 use Rattle.registers.specs.Setting.{displayOn, videoWords}
 use Rattle.registers.specs.declared.record.Registers.{Registers}
 use Rattle.registers.specs.declared.setting.Setting.{Setting}
-use Rattle.registers.proofs.Accepted.{Accepted}
-use Rattle.registers.proofs.Words.{rasterWords, raster-bits, video-on, video-off}
+use Rattle.registers.proofs.Accepted.{Accepted, video-off}
+use Rattle.registers.proofs.Words.{rasterWords, depth-least, raster-bits, video-rasters}
 use Rattle.marks.specs.Count.{total}
 use Rattle.marks.specs.Marks.{marksOf}
 use Rattle.marks.specs.Bright.{Tabled, bright, byteBright, pixelBright, wordAt, coveredBright, cursorRaster, coveredAll}
-use Rattle.marks.proofs.Bytes.{depth-eight, depth-least, words-total}
+use Rattle.marks.proofs.Bytes.{depth-eight, words-total}
 use Rattle.marks.proofs.Points.{markIn, displayBright, point}
 use Rattle.marks.proofs.Rows.{rowsTotal, marks-rows, rows-add, display-total, display-off, covered-total, covered-off}
 
@@ -27,11 +27,11 @@ module _ (s : Setting) (a : Accepted s) where
       let n = 4 * (8 / d) in
       let all : n * d ≡ 32 = omega (arith, mul-assoc 4 (8 / d) d, depth-eight d (a .depth)) in
       let bits : rasterWords s * n * d ≡ (s .de .0 - s .ds .0) * d = rw (mul-assoc (rasterWords s) n d, all, raster-bits s a) in
-      sym (mul-div-cancel (s .de .0 - s .ds .0) (depth-least d (a .depth))) ∙ ap (λ m. m / d) (sym bits) ∙ mul-div-cancel (rasterWords s * n) (depth-least d (a .depth))
+      sym (mul-div-cancel (s .de .0 - s .ds .0) (depth-least (a .depth))) ∙ ap (λ m. m / d) (sym bits) ∙ mul-div-cancel (rasterWords s * n) (depth-least (a .depth))
 
   display-pixels : (m : ℕ) → displayOn s ≡ true → m ≡ videoWords s
       → (s .vde .0 - s .vds .0) * (s .de .0 - s .ds .0) ≡ m * (4 * (8 / s .depth))
-  display-pixels m on e = rw (e, video-on s a on, mul-assoc, ← raster-pixels)
+  display-pixels m on e = rw (e, video-rasters s a on, mul-assoc, ← raster-pixels)
 
   module _ (g : Registers) (video cursor : List ℕ) (threshold : ℕ) (pixels : List ℕ) (t : Tabled pixels 256 (bright g (s .depth) threshold)) where
     -- Marks, and bright pixels that the cursor covers.

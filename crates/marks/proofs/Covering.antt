@@ -11,19 +11,19 @@ use lib.Dec.{eqb}
 use lib.ListN.{length, getD}
 use lib.Pow.{pow-mono}
 use Rattle.buffers.specs.Pick.{pick}
+use Rattle.buffers.proofs.Tests.{no, unless, and-split}
 use Rattle.buffers.proofs.Product.{product-below}
 use Rattle.registers.specs.Setting.{videoWords, cursorWords}
 use Rattle.registers.specs.declared.setting.Setting.{Setting}
-use Rattle.registers.proofs.Accepted.{Accepted}
-use Rattle.registers.proofs.Words.{rasterWords, raster-bits, depth-most, video-on, cursor-on, cursor-off, cursor-raster}
+use Rattle.registers.proofs.Accepted.{Accepted, cursor-off, cursor-words}
+use Rattle.registers.proofs.Words.{rasterWords, raster-bits, depth-least, depth-most, video-rasters, cursor-raster}
 use Rattle.frame.specs.Pixel.{pixel, position, logical, cursorPair}
 use Rattle.frame.specs.Cell.{inDisplay, plainCode, covered}
 use Rattle.frame.proofs.Pixels.{pixel-below}
-use Rattle.frame.proofs.Cells.{no, both, unless, Displayed, Covered, displayed, in-display, is-covered, five-covered, plain-five}
+use Rattle.frame.proofs.Cells.{Displayed, Covered, displayed, in-display, is-covered, five-covered, plain-five}
 use Rattle.marks.specs.Bright.{Ready, OnCursor, coveredBright, cursorBright, rasterBright, cursorRaster, coveredAll}
 use Rattle.marks.specs.Count.{total}
 use Rattle.marks.proofs.Totals.{total-none}
-use Rattle.marks.proofs.Bytes.{depth-least}
 
 module _ (s : Setting) (x y : ℕ) (a : Accepted s) (h : Displayed s x y) where
   pub rows-small : (y - s .vds .0) * (s .de .0 - s .ds .0) < 1025 * 2049
@@ -43,11 +43,11 @@ module _ (s : Setting) (x y : ℕ) (a : Accepted s) (h : Displayed s x y) where
       let high = s .vde .0 - s .vds .0 in
       let r : y - s .vds .0 < high = omega arith in
       let p : x - s .ds .0 < w = omega arith in
-      let bits : high * w * s .depth ≡ n * 32 = rw (e, video-on s a (h .on), mul-assoc, mul-assoc high (rasterWords s) 32, raster-bits s a) in
-      rw (← bits) (mul-lt-mul-of-pos-right (digits-lt r p) (depth-least (s .depth) (a .depth)))
+      let bits : high * w * s .depth ≡ n * 32 = rw (e, video-rasters s a (h .on), mul-assoc, mul-assoc high (rasterWords s) 32, raster-bits s a) in
+      rw (← bits) (mul-lt-mul-of-pos-right (digits-lt r p) (depth-least (a .depth)))
 
 pub pixel-entry : (s : Setting) (ws : List ℕ) (i : ℕ) → Accepted s → pixel ws (s .depth) i < 256
-pixel-entry s ws i a = omega (arith, pixel-below ws (s .depth) i, pow-mono {j = 8} (depth-most s a))
+pixel-entry s ws i a = omega (arith, pixel-below ws (s .depth) i, pow-mono {j = 8} (depth-most (a .depth)))
 
 module _ (s : Setting) (video cursor pixels : List ℕ) (a : Accepted s) (y i : ℕ) where
   -- Outside the display, and where the pair is 00, nothing is covered.
@@ -64,7 +64,7 @@ module _ (s : Setting) (video cursor pixels : List ℕ) (a : Accepted s) (y i : 
       let back : cursorPair s cursor y (x - s .cx .0) ≡ 0 = ap (cursorPair s cursor y) (add-sub-cancel-left (s .cx .0) i) ∙ e in
       let off : (eqb (plainCode s x y) 5 && covered s cursor x y) ≡ false =
       unless (eqb (plainCode s x y) 5 && covered s cursor x y)
-      (λ t. no (sym (is-covered s x y cursor (both (eqb (plainCode s x y) 5) (covered s cursor x y) t .1) .shown) ∙ eq-eqb (cursorPair s cursor y (x - s .cx .0)) 0 back)) in
+      (λ t. no (sym (is-covered s x y cursor (and-split (eqb (plainCode s x y) 5) (covered s cursor x y) t .1) .shown) ∙ eq-eqb (cursorPair s cursor y (x - s .cx .0)) 0 back)) in
       rw off
 
   pub cursor-shown : Displayed s (s .cx .0 + i) y → Covered s cursor (s .cx .0 + i) y
@@ -105,7 +105,7 @@ module _ (s : Setting) (cursor : List ℕ) (j : ℕ) where
         record {
           on = c .on;
           vcs-y = omega arith;
-          y-vce = c .before-end;
+          y-vce = c .y-vce;
           cx-x = omega arith;
           x-end = omega arith;
           shown = ne-eqb (cursorPair s cursor (s .vcs .0 + j) (s .cx .0 + i - s .cx .0)) 0 (λ e. h (sym back ∙ e));
@@ -122,7 +122,7 @@ module _ (s : Setting) (video cursor pixels : List ℕ) (a : Accepted s) where
       → total (cursorRaster s video cursor pixels) (length cursor / 2) ≡ pick on (total (cursorRaster s video cursor pixels) (s .vce .0 - s .vcs .0)) 0
   unfolding total
   covered-by true on e =
-      let end : length cursor / 2 ≡ s .vce .0 - s .vcs .0 = omega (arith, e ∙ cursor-on s on) in
+      let end : length cursor / 2 ≡ s .vce .0 - s .vcs .0 = omega (arith, e ∙ cursor-words s on) in
       ap (total (cursorRaster s video cursor pixels)) end
   covered-by false off e =
       let end : length cursor / 2 ≡ 0 = omega (arith, e ∙ cursor-off s off) in
@@ -131,10 +131,3 @@ module _ (s : Setting) (video cursor pixels : List ℕ) (a : Accepted s) where
   pub covered-words : length cursor ≡ cursorWords s → total (cursorRaster s video cursor pixels) (length cursor / 2) ≡ coveredAll s video cursor pixels
   unfolding coveredAll
   covered-words e = covered-by (s .cursor) refl e
-
-  cursor-most-by : (on : Bool) → s .cursor ≡ on → length cursor ≡ cursorWords s → length cursor / 2 ≤ 1024
-  cursor-most-by true on e = omega (arith, e ∙ cursor-on s on, a .cursor on, a .v-most)
-  cursor-most-by false off e = omega (arith, e ∙ cursor-off s off)
-
-  pub cursor-most : length cursor ≡ cursorWords s → length cursor / 2 ≤ 1024
-  cursor-most e = cursor-most-by (s .cursor) refl e

@@ -1,22 +1,20 @@
 -- The low d bits of a number, by a mask; and the pixels of a byte, taken from its low end.
 use Prim.Native.Nat.{ℕ, _+_, _*_, _-_, _/_, _%_, _^_, _<_, _≤_}
 use mathlib.Core.List.{List}
-use mathlib.Core.Logic.{⊎-elim}
 use mathlib.Core.Path.{_≡_, refl, sym, _∙_, ap}
 use native.Mathlib.Nat.{add-mul, div-one, one-mul, zero-mul, mod-lt}
 use native.Mathlib.Omega.{arith}
 use lib.Bits.{bitAnd, and-mask}
 use lib.ListN.{getD}
 use lib.Pow.{pow-pos, pow-mono, shl-exact, shr-shr}
+use Rattle.registers.proofs.Accepted.{Depth}
+use Rattle.registers.proofs.Words.{depth-most}
 use Rattle.marks.specs.Count.{total}
-use Rattle.marks.specs.Bright.{Depth, AtMost, fieldBright}
+use Rattle.marks.specs.Bright.{AtMost, fieldBright}
 use Rattle.marks.proofs.Totals.{total-more, total-most}
 
-pub depth-eight-most : (d : ℕ) → Depth d → d ≤ 8
-depth-eight-most d h = ⊎-elim (λ e. omega arith) (⊎-elim (λ e. omega arith) (⊎-elim (λ e. omega arith) (λ e. omega arith))) h
-
 one-shifted : (d : ℕ) → Depth d → 1 * 2 ^ d % 2 ^ 32 ≡ 2 ^ d
-one-shifted d h = shl-exact {a = 1} 1 d 32 (omega arith) (omega (arith, depth-eight-most d h)) ∙ one-mul (2 ^ d)
+one-shifted d h = shl-exact {a = 1} 1 d 32 (omega arith) (omega (arith, depth-most h)) ∙ one-mul (2 ^ d)
 
 pub mask-least : (d : ℕ) → Depth d → 1 ≤ 1 * 2 ^ d % 2 ^ 32
 mask-least d h = rw (one-shifted d h) (pow-pos d)
@@ -25,7 +23,7 @@ pub low-bits : (x d : ℕ) → Depth d → bitAnd x (1 * 2 ^ d % 2 ^ 32 - 1) ≡
 low-bits x d h = ap (λ m. bitAnd x (m - 1)) (one-shifted d h) ∙ and-mask x d
 
 pub bits-below : (x d : ℕ) → Depth d → x % 2 ^ d < 256
-bits-below x d h = omega (arith, mod-lt x (pow-pos d), pow-mono {j = 8} (depth-eight-most d h))
+bits-below x d h = omega (arith, mod-lt x (pow-pos d), pow-mono {j = 8} (depth-most h))
 
 pub byte-start : (byte d : ℕ) → byte ≡ byte / 2 ^ (0 * d)
 byte-start byte d = rw (zero-mul d, div-one byte)

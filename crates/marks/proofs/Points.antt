@@ -43,7 +43,7 @@ module _ (g : Registers) (s : Setting) (video cursor : List ℕ) (threshold : �
 
   module _ (pixels : List ℕ) (a : Accepted s) (t : Tabled pixels 256 (bright g (s .depth) threshold)) where
     shown : getD pixels (logical s video x y) 0 ≡ bright g (s .depth) threshold (logical s video x y)
-    shown = t .on (logical s video x y) (omega (arith, pixel-below video (s .depth) (position s x y), pow-mono {j = 8} (depth-most s a)))
+    shown = t .on (logical s video x y) (omega (arith, pixel-below video (s .depth) (position s x y), pow-mono {j = 8} (depth-most (a .depth))))
 
     cases : (c e : Bool) → covered s cursor x y ≡ c → eqb (plainCode s x y) 5 ≡ e
         → markIn g s video cursor threshold y x + coveredBright s video cursor pixels y x ≡ pick e (getD pixels (logical s video x y) 0) 0

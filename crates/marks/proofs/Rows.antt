@@ -10,6 +10,7 @@ use lib.Dec.{eqb}
 use lib.ListN.{getD}
 use borrow.Author.Tests.{lt-ltb}
 use Rattle.buffers.specs.Pick.{pick}
+use Rattle.buffers.proofs.Tests.{no, unless, and-split}
 use Rattle.registers.specs.Setting.{displayOn}
 use Rattle.registers.specs.declared.record.Registers.{Registers}
 use Rattle.registers.specs.declared.setting.Setting.{Setting}
@@ -17,7 +18,7 @@ use Rattle.registers.proofs.Accepted.{Accepted}
 use Rattle.frame.specs.Pixel.{pixel, logical}
 use Rattle.frame.specs.Cell.{inDisplay, plainCode, covered}
 use Rattle.frame.specs.Frame.{frameCell}
-use Rattle.frame.proofs.Cells.{no, both, unless, Displayed, Covered, displayed, in-display, is-covered, plain-five}
+use Rattle.frame.proofs.Cells.{Displayed, Covered, displayed, in-display, is-covered, plain-five}
 use Rattle.marks.specs.Count.{total, bit}
 use Rattle.marks.specs.Marks.{isMark, markAt, marksOf}
 use Rattle.marks.specs.Bright.{Tabled, bright, pixelBright, coveredBright, cursorBright, rasterBright, cursorRaster}
@@ -56,7 +57,7 @@ module _ (s : Setting) (a : Accepted s) (video cursor pixels : List ℕ) where
   covered-none : (y x : ℕ) → (Displayed s x y → Covered s cursor x y → ⊥) → coveredBright s video cursor pixels y x ≡ 0
   covered-none y x h =
       rw (unless (eqb (plainCode s x y) 5 && covered s cursor x y)
-      (λ e. let p = both (eqb (plainCode s x y) 5) (covered s cursor x y) e in
+      (λ e. let p = and-split (eqb (plainCode s x y) 5) (covered s cursor x y) e in
       h (displayed s x y (sym (plain-five s x y a) ∙ p .0)) (is-covered s x y cursor (p .1))))
 
   covered-row-none : (y : ℕ) → ((x : ℕ) → Displayed s x y → Covered s cursor x y → ⊥) → total (coveredBright s video cursor pixels y) (s .n .0) ≡ 0

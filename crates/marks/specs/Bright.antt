@@ -2,7 +2,6 @@
 use Prim.Native.Nat.{ℕ, _+_, _*_, _-_, _/_, _%_, _^_, _<_, _≤_}
 use mathlib.Core.Bool.{Bool, _&&_}
 use mathlib.Core.List.{List}
-use mathlib.Core.Logic.{_⊎_}
 use mathlib.Core.Path.{_≡_}
 use lib.ListN.{length, getD}
 use lib.Dec.{leb, eqb}
@@ -28,10 +27,6 @@ pub record Tabled (table : List ℕ) (n : ℕ) (f : ℕ → ℕ) : Type 0 where
 
 pub record AtMost (table : List ℕ) (m : ℕ) : Type 0 where
   pub most : (k : ℕ) → getD table k 0 ≤ m
-
--- The depths.
-abbrev pub Depth : ℕ → Type 0
-Depth d = (d ≡ 1) ⊎ ((d ≡ 2) ⊎ ((d ≡ 4) ⊎ (d ≡ 8)))
 
 -- The table's sum over the pixels of a byte, lowest bits first.
 abbrev pub field : ℕ → ℕ → ℕ → ℕ

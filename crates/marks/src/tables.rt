@@ -5,7 +5,8 @@ use colours::grey;
 use registers::record::Registers;
 ghost use mathlib.Core.Path.{_≡_};
 ghost use Prim.Native.Nat.{_≤_, _<_};
-ghost use Rattle.marks.specs.Bright.{Depth, Tabled, AtMost, bright, byteBright};
+ghost use Rattle.registers.proofs.Accepted.{Depth};
+ghost use Rattle.marks.specs.Bright.{Tabled, AtMost, bright, byteBright};
 
 // 1 if the grey of a pixel is at or above the threshold, else 0.
 fn is_bright(g: Registers, depth: u8, threshold: u8, pixel: u8) -> u8

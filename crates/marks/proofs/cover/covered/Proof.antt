@@ -1,4 +1,5 @@
-use Rattle.marks.proofs.Covering.{covered-words, cursor-most}
+use Rattle.registers.proofs.Words.{cursor-most}
+use Rattle.marks.proofs.Covering.{covered-words}
 use Rattle.marks.proofs.Totals.{sum-more}
 use Rattle.marks.specs.Bright.{cursorRaster}
 use Rattle.marks.specs.Count.{total}
@@ -31,7 +32,7 @@ covered-in-requires c κs = (c .before .before .before .before .pre, omega arith
 add-sum : tie.Need-add-sum Inv-loop μ-loop
 add-sum c =
     let s = c .before .before .before .before .before in
-    omega (arith, cursor-most (s .args .s) (s .args .video .now) (s .args .cursor .now) (s .args .pixels .now) (s .pre .accepted) (s .pre .cursor-words))
+    omega (arith, cursor-most (s .args .s) (s .pre .accepted), s .pre .cursor-words)
 
 -- src/cover.rt:88:9
 add-j : tie.Need-add-j Inv-loop μ-loop

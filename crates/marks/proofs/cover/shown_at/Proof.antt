@@ -19,7 +19,7 @@ place-requires c κs = search needs
 
 -- src/cover.rt:28:35
 cast-pixel-at : tie.Need-cast-pixel-at
-cast-pixel-at c = omega (arith, depth-most _ (c .before .before .before .pre .0))
+cast-pixel-at c = omega (arith, depth-most (c .before .before .before .pre .0 .depth))
 
 -- src/cover.rt:28:19
 pixel-at-requires : tie.Need-pixel-at-requires

@@ -1,4 +1,5 @@
-use Rattle.marks.proofs.Masks.{depth-eight-most, mask-least, low-bits, bits-below}
+use Rattle.registers.proofs.Words.{depth-most}
+use Rattle.marks.proofs.Masks.{mask-least, low-bits, bits-below}
 use native.Mathlib.Omega.{arith}
 use Rattle.marks.proofs.pixels.low_bits.Statement.{statement}
 use Rattle.marks.proofs.pixels.low_bits.Tie as tie
@@ -7,7 +8,7 @@ use Rattle.marks.proofs.pixels.low_bits.Lts as lts
 
 -- src/pixels.rt:13:12
 shl-result : tie.Need-shl-result
-shl-result c = omega (arith, depth-eight-most _ (c .pre))
+shl-result c = omega (arith, depth-most (c .pre))
 
 -- src/pixels.rt:13:11
 sub-result : tie.Need-sub-result

@@ -1,5 +1,5 @@
+use Rattle.registers.proofs.Words.{depth-most}
 use Prim.Native.Nat.{_<_}
-use Rattle.marks.proofs.Masks.{depth-eight-most}
 use Rattle.frame.specs.Pixel.{pixel}
 use Rattle.buffers.proofs.Product.{product-below}
 use native.Mathlib.Omega.{arith}
@@ -12,7 +12,7 @@ use Rattle.marks.proofs.pixels.low_bits.Reads as low-bits-reads
 
 -- src/pixels.rt:21:15
 mul-bit : tie.Need-mul-bit
-mul-bit c = let s = c .before in let small : s .args .d < 9 = omega (arith, depth-eight-most (s .args .d) (s .pre .0)) in omega (arith, product-below (s .args .i) (s .args .d) (s .pre .2) small)
+mul-bit c = let s = c .before in let small : s .args .d < 9 = omega (arith, depth-most (s .pre .0)) in omega (arith, product-below (s .args .i) (s .args .d) (s .pre .2) small)
 
 -- src/pixels.rt:22:14
 mul-low-bits : tie.Need-mul-low-bits
@@ -32,7 +32,7 @@ shr-low-bits c = search needs
 
 -- src/pixels.rt:22:45
 cast-low-bits-2 : tie.Need-cast-low-bits-2
-cast-low-bits-2 c = omega (arith, depth-eight-most _ (c .before .before .pre .0))
+cast-low-bits-2 c = omega (arith, depth-most (c .before .before .pre .0))
 
 -- src/pixels.rt:22:5
 low-bits-requires : tie.Need-low-bits-requires

@@ -1,6 +1,6 @@
 use native.Mathlib.Nat.{div-le-self}
-use Rattle.marks.proofs.Bytes.{depth-least}
-use Rattle.marks.proofs.Masks.{depth-eight-most, bits-below, byte-start, byte-rest, byte-more, byte-most}
+use Rattle.registers.proofs.Words.{depth-least, depth-most}
+use Rattle.marks.proofs.Masks.{bits-below, byte-start, byte-rest, byte-more, byte-most}
 use Prim.Native.Nat.{_≤_, _-_, _*_, _/_, _^_}
 use mathlib.Core.Path.{_≡_, refl}
 use native.Mathlib.Omega.{arith}
@@ -21,7 +21,7 @@ abbrev μ-loop : tie.MeasureT-loop
 
 -- src/tables.rt:37:15
 div-end : tie.Need-div-end Inv-loop μ-loop
-div-end c = depth-least _ (c .pre .0)
+div-end c = depth-least (c .pre .0)
 
 -- src/tables.rt:41:5
 loop-holds : tie.Need-loop-holds Inv-loop μ-loop
@@ -50,7 +50,7 @@ add-sum c =
 
 -- src/tables.rt:43:16
 shr-rest : tie.Need-shr-rest Inv-loop μ-loop
-shr-rest c = omega (arith, depth-eight-most _ (c .before .before .before .before .pre .0))
+shr-rest c = omega (arith, depth-most (c .before .before .before .before .pre .0))
 
 -- src/tables.rt:44:9
 add-j : tie.Need-add-j Inv-loop μ-loop
