@@ -1,2 +1,2 @@
-pub mod Pixels
-pub mod Cells
+pub mod PixelPlaces
+pub mod CellCodes

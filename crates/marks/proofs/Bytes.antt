@@ -2,14 +2,14 @@
 use Prim.Native.Nat.{ℕ, _+_, _*_, _-_, _/_, _%_, _^_, _<_, _≤_}
 use mathlib.Core.List.{List}
 use mathlib.Core.Logic.{_⊎_, ⊎-elim}
-use mathlib.Core.Path.{_≡_, refl, sym, _∙_, ap}
+use mathlib.Core.Path.{_≡_, sym, _∙_, ap}
 use native.Mathlib.Nat.{add-mul, mul-assoc, mod-lt, div-one, mul-le-mul-right}
 use native.Mathlib.Omega.{arith}
 use lib.ListN.{getD}
 use lib.Pow.{field as pow-field, mod-mod-pow, shr-shr}
 use Rattle.registers.proofs.Accepted.{Depth}
 use Rattle.registers.proofs.Words.{depth-least}
-use Rattle.frame.proofs.Pixels.{pixel-in}
+use Rattle.frame.proofs.PixelPlaces.{pixel-in}
 use Rattle.marks.specs.Count.{total}
 use Rattle.marks.specs.Bright.{Tabled, field, fieldBright, byteBright, pixelBright, wordBright, wordAt}
 use Rattle.marks.proofs.Totals.{total-as, total-rows}

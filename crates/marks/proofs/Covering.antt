@@ -19,9 +19,9 @@ use Rattle.registers.proofs.Accepted.{Accepted, cursor-off, cursor-words}
 use Rattle.registers.proofs.Words.{rasterWords, raster-bits, depth-least, depth-most, video-rasters, cursor-raster}
 use Rattle.frame.specs.Pixel.{pixel, position, logical, cursorPair}
 use Rattle.frame.specs.Cell.{inDisplay, plainCode, covered}
-use Rattle.frame.proofs.Pixels.{pixel-below}
-use Rattle.frame.proofs.Cells.{Displayed, Covered, displayed, in-display, is-covered, five-covered, plain-five}
-use Rattle.marks.specs.Bright.{Ready, OnCursor, coveredBright, cursorBright, rasterBright, cursorRaster, coveredAll}
+use Rattle.frame.proofs.PixelPlaces.{pixel-below}
+use Rattle.frame.proofs.CellCodes.{Displayed, Covered, displayed, in-display, is-covered, five-covered, plain-five}
+use Rattle.marks.specs.Bright.{Ready, OnCursor, cursorBright, rasterBright, cursorRaster, coveredAll}
 use Rattle.marks.specs.Count.{total}
 use Rattle.marks.proofs.Totals.{total-none}
 

@@ -1,8 +1,8 @@
 -- At each position: it is a mark, or a bright pixel that the cursor covers, exactly where a bright pixel is displayed.
-use Prim.Native.Nat.{ℕ, _+_, _-_, _*_, _^_, _<_, _≤_}
-use mathlib.Core.Bool.{Bool, true, false, _&&_, not, and-false}
+use Prim.Native.Nat.{ℕ, _+_, _-_}
+use mathlib.Core.Bool.{Bool, true, false, not, and-false}
 use mathlib.Core.List.{List}
-use mathlib.Core.Path.{_≡_, refl, sym, _∙_, ap}
+use mathlib.Core.Path.{_≡_, refl, _∙_, ap}
 use native.Mathlib.Nat.{zero-add}
 use native.Mathlib.Omega.{arith}
 use lib.Dec.{leb, eqb}
@@ -18,8 +18,8 @@ use Rattle.colours.specs.Colour.{colourOf}
 use Rattle.colours.specs.Grey.{greyOf}
 use Rattle.frame.specs.Pixel.{logical, position}
 use Rattle.frame.specs.Cell.{inDisplay, plainCode, covered, code, cell}
-use Rattle.frame.proofs.Pixels.{pixel-below}
-use Rattle.frame.proofs.Cells.{cell-code, cell-colour, plain-five, code-five}
+use Rattle.frame.proofs.PixelPlaces.{pixel-below}
+use Rattle.frame.proofs.CellCodes.{cell-code, cell-colour, plain-five, code-five}
 use Rattle.marks.specs.Count.{bit}
 use Rattle.marks.specs.Marks.{isMark}
 use Rattle.marks.specs.Bright.{Tabled, bright, coveredBright}

@@ -1,29 +1,26 @@
 -- Over the frame: marks and covered bright pixels together are the bright pixels of the display.
-use Prim.Native.Nat.{ℕ, _+_, _*_, _-_, _<_, _≤_}
-use mathlib.Core.Bool.{Bool, true, false, _&&_}
+use Prim.Native.Nat.{ℕ, _+_, _*_, _-_, _<_}
+use mathlib.Core.Bool.{true, false, _&&_}
 use mathlib.Core.List.{List}
-use mathlib.Core.Path.{_≡_, refl, sym, _∙_, ap}
+use mathlib.Core.Path.{_≡_, sym, _∙_, ap}
 use native.Mathlib.Nat.{mul-comm, add-sub-cancel-left}
 use native.Mathlib.Omega.{arith}
 use lib.Arith.{digits-div, digits-mod}
 use lib.Dec.{eqb}
-use lib.ListN.{getD}
 use borrow.Author.Tests.{lt-ltb}
-use Rattle.buffers.specs.Pick.{pick}
 use Rattle.buffers.proofs.Tests.{no, unless, and-split}
 use Rattle.registers.specs.Setting.{displayOn}
 use Rattle.registers.specs.declared.record.Registers.{Registers}
 use Rattle.registers.specs.declared.setting.Setting.{Setting}
 use Rattle.registers.proofs.Accepted.{Accepted}
-use Rattle.frame.specs.Pixel.{pixel, logical}
 use Rattle.frame.specs.Cell.{inDisplay, plainCode, covered}
 use Rattle.frame.specs.Frame.{frameCell}
-use Rattle.frame.proofs.Cells.{Displayed, Covered, displayed, in-display, is-covered, plain-five}
+use Rattle.frame.proofs.CellCodes.{Displayed, Covered, displayed, in-display, is-covered, plain-five}
 use Rattle.marks.specs.Count.{total, bit}
-use Rattle.marks.specs.Marks.{isMark, markAt, marksOf}
-use Rattle.marks.specs.Bright.{Tabled, bright, pixelBright, coveredBright, cursorBright, rasterBright, cursorRaster}
-use Rattle.marks.proofs.Totals.{Within, total-as, total-none, total-add, total-rows, total-window}
-use Rattle.marks.proofs.Points.{markIn, displayBright, point}
+use Rattle.marks.specs.Marks.{markAt, marksOf}
+use Rattle.marks.specs.Bright.{bright, pixelBright, coveredBright, cursorBright, rasterBright, cursorRaster}
+use Rattle.marks.proofs.Totals.{total-as, total-none, total-add, total-rows, total-window}
+use Rattle.marks.proofs.Points.{markIn, displayBright}
 
 -- A raster's sum, and the sum of all rasters.
 abbrev pub rowsTotal : Setting → (ℕ → ℕ → ℕ) → ℕ

@@ -1,15 +1,14 @@
 -- Tables filled entry by entry.
-use Prim.Native.Nat.{ℕ, _+_, _*_, _-_, _/_, _%_, _^_, _<_, _≤_}
+use Prim.Native.Nat.{ℕ, _+_, _-_, _<_, _≤_}
 use mathlib.Core.Bool.{Bool, true, false}
 use mathlib.Core.List.{List}
 use mathlib.Core.Path.{_≡_, refl, sym, _∙_, ap}
 use native.Mathlib.Omega.{arith}
 use borrow.Author.Count.{below-more}
-use borrow.Author.Tests.{le-leb, lt-leb}
-use lib.Dec.{leb}
-use lib.ListN.{length, getD, set, length-set}
+use borrow.Author.Tests.{le-leb, lt-leb, ltb-true, ltb-false}
+use lib.Dec.{leb, ltb}
+use lib.ListN.{getD, set, length-set, List·getD-eq-default}
 use lib.Seq.{getD-set-same, getD-set-other}
-use Rattle.buffers.specs.Pick.{pick}
 use Rattle.registers.specs.declared.record.Registers.{Registers}
 use Rattle.colours.specs.Colour.{colourOf}
 use Rattle.colours.specs.Grey.{greyOf}
@@ -34,3 +33,18 @@ module _ (g : Registers) (d threshold p c r : ℕ) (e : c ≡ colourOf g d p) (f
 
   pub bright-no : r < threshold → 0 ≡ bright g d threshold p
   bright-no l = ap bit (sym (lt-leb threshold r l) ∙ as-grey)
+
+-- A whole table's bound is its rule's.
+pub tabled-most : {table : List ℕ} {f : ℕ → ℕ} {m : ℕ} → Tabled table 256 f → ((k : ℕ) → f k ≤ m) → AtMost table m
+tabled-most {table} {f} {m} t h = record { most = λ k. by k (ltb k 256) refl }
+  where
+    by : (k : ℕ) (low : Bool) → ltb k 256 ≡ low → getD table k 0 ≤ m
+    by k true e = rw (t .on k (ltb-true k 256 e)) (h k)
+    by k false e = rw (List·getD-eq-default table 0 {n = k} (omega (arith, t .len, ltb-false k 256 e))) (omega arith)
+
+pub bit-most : (test : Bool) → bit test ≤ 1
+bit-most true = omega arith
+bit-most false = omega arith
+
+pub bright-most : (g : Registers) (d threshold : ℕ) {pixels : List ℕ} → Tabled pixels 256 (bright g d threshold) → AtMost pixels 1
+bright-most g d threshold t = tabled-most t (λ p. bit-most (leb threshold (greyOf (colourOf g d p))))

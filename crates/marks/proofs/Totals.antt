@@ -1,7 +1,7 @@
 -- Laws of sums: term by term, in parts, in rows, and within a window outside of which nothing counts.
 use Prim.Native.Nat.{ℕ, zero, suc, _+_, _*_, _<_, _≤_}
-use mathlib.Core.Path.{_≡_, refl, sym, _∙_, ap}
-use native.Mathlib.Nat.{add-assoc, add-comm, add-zero, add-suc, suc-mul, zero-mul}
+use mathlib.Core.Path.{_≡_, refl, ap}
+use native.Mathlib.Nat.{add-assoc, add-zero, add-suc, suc-mul, zero-mul}
 use native.Mathlib.Numerals.{add-one}
 use native.Mathlib.Omega.{arith}
 use Rattle.marks.specs.Count.{total}

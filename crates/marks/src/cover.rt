@@ -8,7 +8,7 @@ ghost use lib.ListN.{length, getD};
 ghost use Rattle.registers.specs.Setting.{videoWords};
 ghost use Rattle.registers.proofs.Accepted.{Accepted};
 ghost use Rattle.frame.specs.Pixel.{position, logical};
-ghost use Rattle.frame.proofs.Cells.{Displayed};
+ghost use Rattle.frame.proofs.CellCodes.{Displayed};
 ghost use Rattle.marks.specs.Bright.{Ready, OnCursor, cursorBright, cursorRaster, coveredAll};
 
 // Where a displayed position's pixel stands among all.

@@ -35,7 +35,7 @@ module _ (s : Setting) (a : Accepted s) where
       let w = s .de .0 - s .ds .0 in
       let h = s .vde .0 - s .vds .0 in
       let bits : w * h * s .depth ≡ h * rasterWords s * 32 =
-          rw (mul-comm w h, mul-assoc h w (s .depth), mul-assoc h (rasterWords s) 32, raster-bits) in
+      rw (mul-comm w h, mul-assoc h w (s .depth), mul-assoc h (rasterWords s) 32, raster-bits) in
       video-on s on ∙ rw bits (omega arith)
 
   video-most-by : (on : Bool) → displayOn s ≡ on → videoWords s ≤ 1024 * 512

@@ -6,12 +6,9 @@ use Rattle.marks.specs.Count.{total}
 use lib.ListN.{length}
 use native.Mathlib.Omega.{arith}
 use mathlib.Core.Path.{_≡_, refl, _∙_}
-use Prim.Native.Nat.{_≤_, _-_, _+_, _*_, _/_}
+use Prim.Native.Nat.{_≤_, _-_, _*_, _/_}
 use Rattle.marks.proofs.cover.covered.Statement.{statement}
 use Rattle.marks.proofs.cover.covered.Tie as tie
-use Rattle.marks.proofs.cover.covered.Reads as reads
-use Rattle.marks.proofs.cover.covered.Lts as lts
-use Rattle.marks.proofs.cover.covered_in.Reads as covered-in-reads
 
 abbrev Inv-loop : tie.InvT-loop
 Inv-loop s video cursor pixels end sum₀ j₀ sum j = (j ≤ end) × (sum ≡ total (cursorRaster s video cursor pixels) j) × (sum ≤ 8160 * j)
@@ -19,34 +16,27 @@ Inv-loop s video cursor pixels end sum₀ j₀ sum j = (j ≤ end) × (sum ≡ t
 abbrev μ-loop : tie.MeasureT-loop
 μ-loop s video cursor pixels end sum₀ j₀ sum j = end - j
 
--- src/cover.rt:86:5
 loop-holds : tie.Need-loop-holds Inv-loop μ-loop
 unfolding total
 loop-holds c = (omega arith, refl, omega arith)
 
--- src/cover.rt:87:16
 covered-in-requires : tie.Need-covered-in-requires Inv-loop μ-loop
 covered-in-requires c κs = (c .before .before .before .before .pre, omega arith)
 
--- src/cover.rt:87:9
 add-sum : tie.Need-add-sum Inv-loop μ-loop
 add-sum c =
     let s = c .before .before .before .before .before in
     omega (arith, cursor-most (s .args .s) (s .pre .accepted), s .pre .cursor-words)
 
--- src/cover.rt:88:9
 add-j : tie.Need-add-j Inv-loop μ-loop
 add-j c = omega arith
 
--- src/cover.rt:86:5
 loop-less : tie.Need-loop-less Inv-loop μ-loop
 loop-less c = omega arith
 
--- src/cover.rt:86:5
 loop-again : tie.Need-loop-again Inv-loop μ-loop
 loop-again c = (omega arith, sum-more _ _ (c .before .before .loop .inv .1) (c .covered-in .ensures .0), omega arith)
 
--- src/cover.rt:79:1
 returns : tie.Need-returns Inv-loop μ-loop
 returns c =
     let s = c .before .before .before .before in

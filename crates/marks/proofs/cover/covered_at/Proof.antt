@@ -4,58 +4,43 @@ use native.Mathlib.Omega.{arith}
 use borrow.Author.Needs.{needs}
 use Rattle.marks.proofs.cover.covered_at.Statement.{statement}
 use Rattle.marks.proofs.cover.covered_at.Tie as tie
-use Rattle.marks.proofs.cover.covered_at.Reads as reads
-use Rattle.marks.proofs.cover.covered_at.Lts as lts
-use Rattle.marks.proofs.cover.pair_at.Reads as pair-at-reads
-use Rattle.marks.proofs.cover.shown_at.Reads as shown-at-reads
 
--- src/cover.rt:44:13
 cast-x : tie.Need-cast-x
 cast-x c = search needs
 
--- src/cover.rt:44:13
 add-x : tie.Need-add-x
 add-x c = search needs
 
--- src/cover.rt:45:12
 cast-if1 : tie.Need-cast-if1
 cast-if1 c = search needs
 
--- src/cover.rt:46:9
 returns : tie.Need-returns
 returns c =
     let s = c .before .before .before .before .before in
     (cursor-out _ _ _ _ (s .pre .0 .accepted) _ _ (λ d. omega (arith, d .ds-x, c .if1 .taken)), omega arith)
 
--- src/cover.rt:48:13
 cast-if2 : tie.Need-cast-if2
 cast-if2 c = search needs
 
--- src/cover.rt:49:9
 returns-2 : tie.Need-returns-2
 returns-2 c =
     let s = c .before .before .before .before .before .before .before in
     (cursor-out _ _ _ _ (s .pre .0 .accepted) _ _ (λ d. omega (arith, d .x-de, c .if2 .taken)), omega arith)
 
--- src/cover.rt:51:8
 pair-at-requires : tie.Need-pair-at-requires
 pair-at-requires c κs = search needs
 
--- src/cover.rt:52:9
 returns-3 : tie.Need-returns-3
 returns-3 c =
     let s = c .before .before .before .before .before .before .before .before .before in
     (cursor-clear _ _ _ _ (s .pre .0 .accepted) _ _ (pair-is _ _ _ _ ∙ sym (c .before .pair-at .ensures) ∙ c .if3 .taken), omega arith)
 
--- src/cover.rt:54:35
 cast-shown-at : tie.Need-cast-shown-at
 cast-shown-at c = let s = c .before .before .before .before .before .before .before .before .before .before in omega (arith, raster-small _ _ _ (s .pre .0) (s .pre .1 .here))
 
--- src/cover.rt:54:35
 add-shown-at : tie.Need-add-shown-at
 add-shown-at c = let s = c .before .before .before .before .before .before .before .before .before .before in omega (arith, raster-small _ _ _ (s .pre .0) (s .pre .1 .here))
 
--- src/cover.rt:54:5
 shown-at-requires : tie.Need-shown-at-requires
 shown-at-requires c κs =
     let s = c .before .before .before .before .before .before .before .before .before .before in (
@@ -64,7 +49,6 @@ shown-at-requires c κs =
       s .pre .0 .video-words,
     )
 
--- src/cover.rt:40:1
 returns-4 : tie.Need-returns-4
 returns-4 c =
     let s = c .before .before .before .before .before .before .before .before .before .before .before in (

@@ -3,46 +3,34 @@ use native.Mathlib.Omega.{arith}
 use borrow.Author.Needs.{needs}
 use Rattle.marks.proofs.cover.place.Statement.{statement}
 use Rattle.marks.proofs.cover.place.Tie as tie
-use Rattle.marks.proofs.cover.place.Reads as reads
-use Rattle.marks.proofs.cover.place.Lts as lts
 
--- src/cover.rt:19:10
 cast-result : tie.Need-cast-result
 cast-result c = search needs
 
--- src/cover.rt:19:6
 sub-result : tie.Need-sub-result
 sub-result c = search needs
 
--- src/cover.rt:19:31
 cast-result-2 : tie.Need-cast-result-2
 cast-result-2 c = search needs
 
--- src/cover.rt:19:49
 cast-result-3 : tie.Need-cast-result-3
 cast-result-3 c = search needs
 
--- src/cover.rt:19:31
 sub-result-2 : tie.Need-sub-result-2
 sub-result-2 c = search needs
 
--- src/cover.rt:19:5
 mul-result : tie.Need-mul-result
 mul-result c = omega (arith, rows-small _ _ _ (c .before .before .before .pre .0) (c .before .before .before .pre .1))
 
--- src/cover.rt:19:73
 cast-result-4 : tie.Need-cast-result-4
 cast-result-4 c = search needs
 
--- src/cover.rt:19:69
 sub-result-3 : tie.Need-sub-result-3
 sub-result-3 c = search needs
 
--- src/cover.rt:19:5
 add-result : tie.Need-add-result
 add-result c = omega (arith, position-small _ _ _ (c .before .before .before .before .pre .0) (c .before .before .before .before .pre .1))
 
--- src/cover.rt:15:1
 returns : tie.Need-returns
 returns c = search needs
 

@@ -2,26 +2,18 @@ use Rattle.marks.proofs.Covering.{position-small, pixel-room, pixel-ent
 use Rattle.frame.specs.Pixel.{pixel}
 use Rattle.registers.proofs.Words.{depth-most}
 use lib.ListN.{getD}
-use mathlib.Core.Path.{_≡_, _∙_, ap}
+use mathlib.Core.Path.{_∙_, ap}
 use native.Mathlib.Omega.{arith}
 use borrow.Author.Needs.{needs}
 use Rattle.marks.proofs.cover.shown_at.Statement.{statement}
 use Rattle.marks.proofs.cover.shown_at.Tie as tie
-use Rattle.marks.proofs.cover.shown_at.Reads as reads
-use Rattle.marks.proofs.cover.shown_at.Lts as lts
-use Rattle.marks.proofs.cover.place.Reads as place-reads
-use Rattle.marks.proofs.pixels.pixel_at.Reads as pixel-at-reads
-use Rattle.marks.proofs.walk.entry.Reads as entry-reads
 
--- src/cover.rt:27:9
 place-requires : tie.Need-place-requires
 place-requires c κs = search needs
 
--- src/cover.rt:28:35
 cast-pixel-at : tie.Need-cast-pixel-at
 cast-pixel-at c = omega (arith, depth-most (c .before .before .before .pre .0 .depth))
 
--- src/cover.rt:28:19
 pixel-at-requires : tie.Need-pixel-at-requires
 pixel-at-requires c κs =
     let s = c .before .before .before in (
@@ -30,11 +22,9 @@ pixel-at-requires c κs =
       rw (c .before .place .ensures) (position-small _ _ _ (s .pre .0) (s .pre .1)),
     )
 
--- src/cover.rt:28:5
 entry-requires : tie.Need-entry-requires
 entry-requires c κs = rw (c .pixel-at .ensures) (pixel-entry _ _ _ (c .before .before .before .before .pre .0))
 
--- src/cover.rt:23:1
 returns : tie.Need-returns
 returns c =
     let s = c .before .before .before .before .before in (

@@ -3,22 +3,16 @@ use Rattle.marks.proofs.Masks.{mask-least, low-bits, bits-below}
 use native.Mathlib.Omega.{arith}
 use Rattle.marks.proofs.pixels.low_bits.Statement.{statement}
 use Rattle.marks.proofs.pixels.low_bits.Tie as tie
-use Rattle.marks.proofs.pixels.low_bits.Reads as reads
-use Rattle.marks.proofs.pixels.low_bits.Lts as lts
 
--- src/pixels.rt:13:12
 shl-result : tie.Need-shl-result
 shl-result c = omega (arith, depth-most (c .pre))
 
--- src/pixels.rt:13:11
 sub-result : tie.Need-sub-result
 sub-result c = mask-least _ (c .pre)
 
--- src/pixels.rt:13:5
 cast-result : tie.Need-cast-result
 cast-result c = omega (arith, low-bits (c .args .x) (c .args .d) (c .pre), bits-below (c .args .x) (c .args .d) (c .pre))
 
--- src/pixels.rt:9:1
 returns : tie.Need-returns
 returns c = low-bits _ _ (c .pre)
 

@@ -6,39 +6,28 @@ use native.Mathlib.Omega.{arith}
 use borrow.Author.Needs.{needs}
 use Rattle.marks.proofs.pixels.pixel_at.Statement.{statement}
 use Rattle.marks.proofs.pixels.pixel_at.Tie as tie
-use Rattle.marks.proofs.pixels.pixel_at.Reads as reads
-use Rattle.marks.proofs.pixels.pixel_at.Lts as lts
-use Rattle.marks.proofs.pixels.low_bits.Reads as low-bits-reads
 
--- src/pixels.rt:21:15
 mul-bit : tie.Need-mul-bit
 mul-bit c = let s = c .before in let small : s .args .d < 9 = omega (arith, depth-most (s .pre .0)) in omega (arith, product-below (s .args .i) (s .args .d) (s .pre .2) small)
 
--- src/pixels.rt:22:14
 mul-low-bits : tie.Need-mul-low-bits
 mul-low-bits c = search needs
 
--- src/pixels.rt:22:14
 shared-slice-read-low-bits : tie.Need-shared-slice-read-low-bits
 shared-slice-read-low-bits c = search needs
 
--- src/pixels.rt:22:34
 cast-low-bits : tie.Need-cast-low-bits
 cast-low-bits c = search needs
 
--- src/pixels.rt:22:14
 shr-low-bits : tie.Need-shr-low-bits
 shr-low-bits c = search needs
 
--- src/pixels.rt:22:45
 cast-low-bits-2 : tie.Need-cast-low-bits-2
 cast-low-bits-2 c = omega (arith, depth-most (c .before .before .pre .0))
 
--- src/pixels.rt:22:5
 low-bits-requires : tie.Need-low-bits-requires
 low-bits-requires c κs = search needs
 
--- src/pixels.rt:17:1
 returns : tie.Need-returns
 unfolding pixel
 returns c = c .low-bits .ensures

@@ -5,9 +5,6 @@ use Rattle.marks.specs.Bright.{Tabled, byteBright}
 use Rattle.marks.proofs.Tabled.{tabled-more}
 use Rattle.marks.proofs.tables.bright_bytes.Statement.{statement}
 use Rattle.marks.proofs.tables.bright_bytes.Tie as tie
-use Rattle.marks.proofs.tables.bright_bytes.Reads as reads
-use Rattle.marks.proofs.tables.bright_bytes.Lts as lts
-use Rattle.marks.proofs.tables.in_byte.Reads as in-byte-reads
 
 abbrev Inv-loop : tie.InvT-loop
 Inv-loop pixels depth table₀ k₀ table k = (k ≤ 256) × Tabled table k (byteBright pixels depth)
@@ -15,35 +12,27 @@ Inv-loop pixels depth table₀ k₀ table k = (k ≤ 256) × Tabled table k (byt
 abbrev μ-loop : tie.MeasureT-loop
 μ-loop pixels depth table₀ k₀ table k = 256 - k
 
--- src/tables.rt:55:5
 loop-holds : tie.Need-loop-holds Inv-loop μ-loop
 loop-holds c = (omega arith, record { len = refl; on = λ i l. absurd (omega arith) })
 
--- src/tables.rt:56:18
 cast-at : tie.Need-cast-at Inv-loop μ-loop
 cast-at c = omega arith
 
--- src/tables.rt:57:21
 in-byte-requires : tie.Need-in-byte-requires Inv-loop μ-loop
 in-byte-requires c κs = c .before .before .pre
 
--- src/tables.rt:57:9
 array-write-table : tie.Need-array-write-table Inv-loop μ-loop
 array-write-table c = omega arith
 
--- src/tables.rt:58:9
 add-k : tie.Need-add-k Inv-loop μ-loop
 add-k c = omega arith
 
--- src/tables.rt:55:5
 loop-less : tie.Need-loop-less Inv-loop μ-loop
 loop-less c = omega arith
 
--- src/tables.rt:55:5
 loop-again : tie.Need-loop-again Inv-loop μ-loop
 loop-again c = (omega arith, tabled-more (c .before .before .loop .inv .1) (omega arith) (c .in-byte .ensures))
 
--- src/tables.rt:49:1
 returns : tie.Need-returns Inv-loop μ-loop
 returns c = let e : c .before .loop .k ≡ 256 = omega arith in rw e at (c .before .loop .inv .1)
 

@@ -7,9 +7,6 @@ use Rattle.marks.specs.Bright.{Tabled, bright}
 use Rattle.marks.proofs.Tabled.{tabled-more}
 use Rattle.marks.proofs.tables.bright_pixels.Statement.{statement}
 use Rattle.marks.proofs.tables.bright_pixels.Tie as tie
-use Rattle.marks.proofs.tables.bright_pixels.Reads as reads
-use Rattle.marks.proofs.tables.bright_pixels.Lts as lts
-use Rattle.marks.proofs.tables.is_bright.Reads as is-bright-reads
 
 abbrev Inv-loop : tie.InvT-loop
 Inv-loop g depth threshold table₀ k₀ table k = (k ≤ 256) × Tabled table k (bright g depth threshold)
@@ -17,35 +14,27 @@ Inv-loop g depth threshold table₀ k₀ table k = (k ≤ 256) × Tabled table k
 abbrev μ-loop : tie.MeasureT-loop
 μ-loop g depth threshold table₀ k₀ table k = 256 - k
 
--- src/tables.rt:24:5
 loop-holds : tie.Need-loop-holds Inv-loop μ-loop
 loop-holds c = (omega arith, record { len = refl; on = λ i l. absurd (omega arith) })
 
--- src/tables.rt:25:51
 cast-is-bright : tie.Need-cast-is-bright Inv-loop μ-loop
 cast-is-bright c = omega arith
 
--- src/tables.rt:25:20
 is-bright-requires : tie.Need-is-bright-requires Inv-loop μ-loop
 is-bright-requires c κs = search needs
 
--- src/tables.rt:25:9
 array-write-table : tie.Need-array-write-table Inv-loop μ-loop
 array-write-table c = omega arith
 
--- src/tables.rt:26:9
 add-k : tie.Need-add-k Inv-loop μ-loop
 add-k c = omega arith
 
--- src/tables.rt:24:5
 loop-less : tie.Need-loop-less Inv-loop μ-loop
 loop-less c = omega arith
 
--- src/tables.rt:24:5
 loop-again : tie.Need-loop-again Inv-loop μ-loop
 loop-again c = (omega arith, tabled-more (c .before .before .loop .inv .1) (omega arith) (c .is-bright .ensures))
 
--- src/tables.rt:19:1
 returns : tie.Need-returns Inv-loop μ-loop
 returns c = let e : c .before .loop .k ≡ 256 = omega arith in rw e at (c .before .loop .inv .1)
 

@@ -4,14 +4,10 @@ use Rattle.marks.proofs.Masks.{bits-below, byte-start, byte-rest, byte-
 use Prim.Native.Nat.{_≤_, _-_, _*_, _/_, _^_}
 use mathlib.Core.Path.{_≡_, refl}
 use native.Mathlib.Omega.{arith}
-use borrow.Author.Needs.{needs}
 use Rattle.marks.specs.Count.{total}
 use Rattle.marks.specs.Bright.{fieldBright, byteBright}
 use Rattle.marks.proofs.tables.in_byte.Statement.{statement}
 use Rattle.marks.proofs.tables.in_byte.Tie as tie
-use Rattle.marks.proofs.tables.in_byte.Reads as reads
-use Rattle.marks.proofs.tables.in_byte.Lts as lts
-use Rattle.marks.proofs.pixels.low_bits.Reads as low-bits-reads
 
 abbrev Inv-loop : tie.InvT-loop
 Inv-loop pixels depth byte end rest₀ sum₀ j₀ rest sum j = (j ≤ end) × (rest ≡ byte / 2 ^ (j * depth)) × (sum ≡ total (fieldBright pixels depth byte) j)
@@ -19,24 +15,19 @@ Inv-loop pixels depth byte end rest₀ sum₀ j₀ rest sum j = (j ≤ end) × (
 abbrev μ-loop : tie.MeasureT-loop
 μ-loop pixels depth byte end rest₀ sum₀ j₀ rest sum j = end - j
 
--- src/tables.rt:37:15
 div-end : tie.Need-div-end Inv-loop μ-loop
 div-end c = depth-least (c .pre .0)
 
--- src/tables.rt:41:5
 loop-holds : tie.Need-loop-holds Inv-loop μ-loop
 unfolding total
 loop-holds c = (omega arith, byte-start _ _, refl)
 
--- src/tables.rt:42:23
 low-bits-requires : tie.Need-low-bits-requires Inv-loop μ-loop
 low-bits-requires c κs = c .before .before .pre .0
 
--- src/tables.rt:42:16
 element-copy-out-sum : tie.Need-element-copy-out-sum Inv-loop μ-loop
 element-copy-out-sum c = rw (c .low-bits .ensures) (bits-below _ _ (c .before .before .before .pre .0))
 
--- src/tables.rt:42:9
 add-sum : tie.Need-add-sum Inv-loop μ-loop
 add-sum c =
     let s = c .before .before .before .before in
@@ -48,19 +39,15 @@ add-sum c =
       div-le-self 8 (s .args .depth),
     )
 
--- src/tables.rt:43:16
 shr-rest : tie.Need-shr-rest Inv-loop μ-loop
 shr-rest c = omega (arith, depth-most (c .before .before .before .before .pre .0))
 
--- src/tables.rt:44:9
 add-j : tie.Need-add-j Inv-loop μ-loop
 add-j c = omega (arith, div-le-self 8 (c .before .before .before .before .args .depth))
 
--- src/tables.rt:41:5
 loop-less : tie.Need-loop-less Inv-loop μ-loop
 loop-less c = omega arith
 
--- src/tables.rt:41:5
 loop-again : tie.Need-loop-again Inv-loop μ-loop
 loop-again c =
     let s = c .before .before .before .before in
@@ -70,7 +57,6 @@ loop-again c =
       byte-more (s .args .pixels .now) _ _ _ _ _ _ (l .inv .1) (l .inv .2) (c .before .low-bits .ensures),
     )
 
--- src/tables.rt:33:1
 returns : tie.Need-returns Inv-loop μ-loop
 unfolding byteBright
 returns c =

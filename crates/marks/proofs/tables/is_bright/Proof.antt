@@ -2,24 +2,16 @@ use Rattle.marks.proofs.Tabled.{bright-yes, bright-no}
 use borrow.Author.Needs.{needs}
 use Rattle.marks.proofs.tables.is_bright.Statement.{statement}
 use Rattle.marks.proofs.tables.is_bright.Tie as tie
-use Rattle.marks.proofs.tables.is_bright.Reads as reads
-use Rattle.marks.proofs.tables.is_bright.Lts as lts
-use Rattle.colours.proofs.colour.Reads as colour-reads
-use Rattle.colours.proofs.grey.Reads as grey-reads
 
--- src/tables.rt:13:26
 colour-requires : tie.Need-colour-requires
 colour-requires c κs = search needs
 
--- src/tables.rt:13:21
 grey-requires : tie.Need-grey-requires
 grey-requires c κs = search needs
 
--- src/tables.rt:14:9
 returns : tie.Need-returns
 returns c = let s = c .before .before .before in bright-yes (s .args .g) (s .args .depth) _ (s .args .pixel) _ _ (c .before .before .colour .ensures) (c .before .grey .ensures) (c .if1 .taken)
 
--- src/tables.rt:10:1
 returns-2 : tie.Need-returns-2
 returns-2 c = let s = c .before .before .before in bright-no (s .args .g) (s .args .depth) _ (s .args .pixel) _ _ (c .before .before .colour .ensures) (c .before .grey .ensures) (c .if1 .left)
 

@@ -8,9 +8,6 @@ use Rattle.marks.specs.Bright.{wordAt}
 use Rattle.marks.proofs.Totals.{sum-more}
 use Rattle.marks.proofs.walk.in_words.Statement.{statement}
 use Rattle.marks.proofs.walk.in_words.Tie as tie
-use Rattle.marks.proofs.walk.in_words.Reads as reads
-use Rattle.marks.proofs.walk.in_words.Lts as lts
-use Rattle.marks.proofs.walk.in_word.Reads as in-word-reads
 
 abbrev Inv-loop : tie.InvT-loop
 Inv-loop bytes words sum₀ k₀ sum k = (k ≤ length words) × (sum ≡ total (wordAt bytes words) k) × (sum ≤ 1020 * k)
@@ -18,40 +15,31 @@ Inv-loop bytes words sum₀ k₀ sum k = (k ≤ length words) × (sum ≡ total 
 abbrev μ-loop : tie.MeasureT-loop
 μ-loop bytes words sum₀ k₀ sum k = length words - k
 
--- src/walk.rt:29:5
 loop-holds : tie.Need-loop-holds Inv-loop μ-loop
 unfolding total
 loop-holds c = (omega arith, refl, omega arith)
 
--- src/walk.rt:30:31
 mul-in-word : tie.Need-mul-in-word Inv-loop μ-loop
 mul-in-word c = omega arith
 
--- src/walk.rt:30:31
 shared-slice-read-in-word : tie.Need-shared-slice-read-in-word Inv-loop μ-loop
 shared-slice-read-in-word c = omega arith
 
--- src/walk.rt:30:16
 in-word-requires : tie.Need-in-word-requires Inv-loop μ-loop
 in-word-requires c κs = search needs
 
--- src/walk.rt:30:9
 add-sum : tie.Need-add-sum Inv-loop μ-loop
 add-sum c = omega arith
 
--- src/walk.rt:31:9
 add-k : tie.Need-add-k Inv-loop μ-loop
 add-k c = omega arith
 
--- src/walk.rt:29:5
 loop-less : tie.Need-loop-less Inv-loop μ-loop
 loop-less c = omega arith
 
--- src/walk.rt:29:5
 loop-again : tie.Need-loop-again Inv-loop μ-loop
 loop-again c = (omega arith, sum-more _ _ (c .before .before .before .loop .inv .1) (c .in-word .ensures .0), omega arith)
 
--- src/walk.rt:23:1
 returns : tie.Need-returns Inv-loop μ-loop
 returns c = let e : c .before .loop .k ≡ length (c .before .before .before .args .words .now) = omega arith in rw e at (c .before .loop .inv .1)
 

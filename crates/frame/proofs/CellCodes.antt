@@ -1,23 +1,21 @@
 -- What a cell holds can be told apart, and where code 5 applies.
-use Prim.Native.Nat.{ℕ, _+_, _*_, _-_, _/_, _%_, _<_, _≤_}
+use Prim.Native.Nat.{ℕ, _+_, _-_, _/_, _%_, _<_, _≤_}
 use mathlib.Core.Bool.{Bool, true, false, _&&_, not}
 use mathlib.Core.List.{List}
-use mathlib.Core.Path.{_≡_, refl, subst, _∙_}
+use mathlib.Core.Path.{_≡_, refl, _∙_}
 use native.Mathlib.Omega.{arith}
 use lib.Arith.{digits-div, digits-mod}
-use lib.Dec.{T, ltb, leb, eqb}
+use lib.Dec.{ltb, leb, eqb}
 use borrow.Author.Tests.{leb-true, le-leb, le-ltb, lt-ltb, ltb-true, not-true}
 use Rattle.buffers.specs.Pick.{pick}
 use Rattle.buffers.proofs.Tests.{and-split}
 use Rattle.registers.specs.Setting.{displayOn}
-use Rattle.registers.specs.Colours.{borderOf, cursorOf}
 use Rattle.registers.specs.declared.record.Registers.{Registers}
 use Rattle.registers.specs.declared.setting.Setting.{Setting}
 use Rattle.registers.proofs.Accepted.{Accepted}
-use Rattle.colours.specs.Colour.{colourOf}
 use Rattle.colours.proofs.Bounds.{colour-below, picked-below}
 use Rattle.frame.specs.Pixel.{logical, cursorPair}
-use Rattle.frame.specs.Cell.{within, syncCode, inDisplay, inBorder, inCursor, plainCode, covered, code, colour, cell}
+use Rattle.frame.specs.Cell.{within, inDisplay, inBorder, inCursor, plainCode, covered, code, colour, cell}
 
 module _ (g : Registers) (s : Setting) (video cursor : List ℕ) (x y : ℕ) where
   colour-small : colour g s video cursor x y < 8192
