@@ -1,6 +1,7 @@
 -- Tests joined by and, or: what is known of the parts.
-use mathlib.Core.Path.{_≡_, refl}
-use mathlib.Core.Bool.{Bool, true, false, _&&_, _||_}
+use mathlib.Core.Path.{_≡_, refl, subst}
+use mathlib.Core.Bool.{Bool, true, false, _&&_, _||_, not}
+use lib.Dec.{T}
 use mathlib.Core.Logic.{_⊎_, inl, inr}
 
 pub and-split : (a b : Bool) → a && b ≡ true → (a ≡ true) × (b ≡ true)
@@ -20,3 +21,11 @@ or-left b p = rw p
 pub or-right : (a : Bool) {b : Bool} → b ≡ true → a || b ≡ true
 or-right true q = refl
 or-right false q = q
+
+pub no : false ≡ true → ⊥
+no e = subst (λ b. T (not b)) e tt
+
+-- a test that cannot hold is false
+pub unless : (b : Bool) → (b ≡ true → ⊥) → b ≡ false
+unless true h = absurd (h refl)
+unless false h = refl

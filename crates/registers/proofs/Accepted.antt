@@ -83,7 +83,7 @@ module _ (g : Registers) where
         vs-v = h .vertical .0;
         display = displayed (settingOf g) (h .vertical);
         border = bordered (settingOf g) (h .vertical);
-        cursor = λ on. h .cursor on .1
+        cursor = λ on. h .cursor on .1;
       }
 
   pub accepted : (s : Setting) → checkTold g ≡ given s → Accepted s

@@ -39,7 +39,7 @@ module _ (s : Setting) where
         bs-ds = leb-true _ _ (t .1);
         ds-de = ltb-true _ _ (r .1);
         de-be = leb-true _ _ (q .1);
-        be-n = leb-true _ _ (p .1)
+        be-n = leb-true _ _ (p .1);
       }
 
   horizontal-tests : Horizontal s → horizontalRule s ≡ true
@@ -58,7 +58,7 @@ module _ (s : Setting) where
         vbs-vds = leb-true _ _ (t .1);
         vds-vde = ltb-true _ _ (r .1);
         vde-vbe = leb-true _ _ (q .1);
-        vbe-v = leb-true _ _ (p .1)
+        vbe-v = leb-true _ _ (p .1);
       }
 
   displayed-tests : Displayed s → displayRule s ≡ true
@@ -76,7 +76,7 @@ module _ (s : Setting) where
   bordered-tests h = and-join (and-join (le-leb _ _ (h .vs-vbs)) (lt-ltb _ _ (h .vbs-vbe))) (le-leb _ _ (h .vbe-v))
 
   off-right : not (displayOn s) && (not (borderOn s) || borderRule s) ≡ true
-    → (s .vde .0 ≤ s .vds .0) × ((s .vbe .0 ≤ s .vbs .0) ⊎ Bordered s)
+      → (s .vde .0 ≤ s .vds .0) × ((s .vbe .0 ≤ s .vbs .0) ⊎ Bordered s)
   off-right e =
       let p = and-split _ _ e in
       (ltb-false _ _ (not-true _ (p .0)), go (or-split _ _ (p .1)))
@@ -91,7 +91,7 @@ module _ (s : Setting) where
       (leb-true _ _ (p .0), go (or-split _ _ (p .1)))
     where
       go : (displayRule s ≡ true) ⊎ (not (displayOn s) && (not (borderOn s) || borderRule s) ≡ true)
-        → Displayed s ⊎ ((s .vde .0 ≤ s .vds .0) × ((s .vbe .0 ≤ s .vbs .0) ⊎ Bordered s))
+          → Displayed s ⊎ ((s .vde .0 ≤ s .vds .0) × ((s .vbe .0 ≤ s .vbs .0) ⊎ Bordered s))
       go (inl q) = inl (displayed-right q)
       go (inr q) = inr (off-right q)
 
@@ -101,8 +101,9 @@ module _ (s : Setting) where
       inner : (s .vbe .0 ≤ s .vbs .0) ⊎ Bordered s → not (borderOn s) || borderRule s ≡ true
       inner (inl h) = or-left (borderRule s) (not-off (le-ltb _ _ h))
       inner (inr h) = or-right (not (borderOn s)) (bordered-tests h)
+
       go : Displayed s ⊎ ((s .vde .0 ≤ s .vds .0) × ((s .vbe .0 ≤ s .vbs .0) ⊎ Bordered s))
-        → displayRule s || (not (displayOn s) && (not (borderOn s) || borderRule s)) ≡ true
+          → displayRule s || (not (displayOn s) && (not (borderOn s) || borderRule s)) ≡ true
       go (inl h) = or-left (not (displayOn s) && (not (borderOn s) || borderRule s)) (displayed-tests h)
       go (inr h) = or-right (displayRule s) (and-join (not-off (le-ltb _ _ (h .0))) (inner (h .1)))
 
@@ -131,12 +132,12 @@ module _ (g : Registers) where
   cursor-right e on = go (or-split (not (settingOf g .cursor)) _ e)
     where
       go : (not (settingOf g .cursor) ≡ true) ⊎ (eqb (subPosition g) 0 && leb (settingOf g .vce .0) (settingOf g .v .0) ≡ true)
-        → (subPosition g ≡ 0) × (settingOf g .vce .0 ≤ settingOf g .v .0)
+          → (subPosition g ≡ 0) × (settingOf g .vce .0 ≤ settingOf g .v .0)
       go (inl q) = let z : _≡_ {A = ℕ} 0 1 = cc (not-true (settingOf g .cursor) q) in absurd (omega arith)
       go (inr q) = let p = and-split _ _ q in (eqb-true _ _ (p .0), leb-true _ _ (p .1))
 
   cursor-tests : (settingOf g .cursor ≡ true → (subPosition g ≡ 0) × (settingOf g .vce .0 ≤ settingOf g .v .0))
-    → cursorRule g (settingOf g) ≡ true
+      → cursorRule g (settingOf g) ≡ true
   cursor-tests h = go (settingOf g .cursor) refl
     where
       go : (b : Bool) → settingOf g .cursor ≡ b → cursorRule g (settingOf g) ≡ true
@@ -155,7 +156,7 @@ module _ (g : Registers) where
         horizontal = horizontal-right (settingOf g) (not-false _ (p .1 .1 .1 .0));
         vertical = vertical-right (settingOf g) (not-false _ (p .1 .1 .1 .1 .0));
         width = eqb-true _ _ (not-false _ (p .1 .1 .1 .1 .1 .0));
-        cursor = cursor-right (not-false _ (p .1 .1 .1 .1 .1 .1 .0))
+        cursor = cursor-right (not-false _ (p .1 .1 .1 .1 .1 .1 .0));
       }
 
   pub accepted-setting : (s : Setting) → checkTold g ≡ given s → s ≡ settingOf g
@@ -165,16 +166,29 @@ module _ (g : Registers) where
   -- accepted exactly when every rule holds
   pub exactly : (checkTold g ≡ given (settingOf g)) ↔ EveryRule g
   unfolding checkTold
-  exactly =
-      (every-rule (settingOf g), λ h.
-        passes-given (settingOf g) (settingTable g)
-        (none-missing (h .written),
-        (not-of (eq-eqb _ _ (h .test-mode)),
-        (not-of (eq-eqb _ _ (h .interlace)),
-        (not-of (horizontal-tests (settingOf g) (h .horizontal)),
-        (not-of (vertical-tests (settingOf g) (h .vertical)),
-        (not-of (eq-eqb _ _ (h .width)),
-        (not-of (cursor-tests (h .cursor)), tt))))))))
+  exactly = (
+    every-rule (settingOf g),
+    λ h.
+        passes-given (settingOf g) (settingTable g) (
+          none-missing (h .written),
+          (
+            not-of (eq-eqb _ _ (h .test-mode)),
+            (
+              not-of (eq-eqb _ _ (h .interlace)),
+              (
+                not-of (horizontal-tests (settingOf g) (h .horizontal)),
+                (
+                  not-of (vertical-tests (settingOf g) (h .vertical)),
+                  (
+                    not-of (eq-eqb _ _ (h .width)),
+                    (not-of (cursor-tests (h .cursor)), tt),
+                  ),
+                ),
+              ),
+            ),
+          ),
+        ),
+  )
 
   -- and refused exactly with the first rule broken
   pub first-broken : (n d : ℕ) → (checkTold g ≡ refused n d) ↔ First (settingTable g) n d

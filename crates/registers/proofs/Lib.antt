@@ -6,3 +6,4 @@ pub mod Accepted
 pub mod Told
 pub mod Unique
 pub mod Cases
+pub mod Words

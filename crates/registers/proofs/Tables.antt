@@ -22,7 +22,7 @@ module _ {A : Type 0} (a : A) where
   given-passes (r ∷ rs) b e = go (r .when) refl e (λ q. given-passes rs b q)
     where
       go : (t : Bool) → r .when ≡ t → pick t (refused (r .number) (r .detail)) (judged rs a) ≡ given b
-        → (judged rs a ≡ given b → Passes rs × (a ≡ b)) → Passes (r ∷ rs) × (a ≡ b)
+          → (judged rs a ≡ given b → Passes rs × (a ≡ b)) → Passes (r ∷ rs) × (a ≡ b)
       go true w q more = never (sym q)
       go false w q more = ((w, more q .0), more q .1)
 
@@ -31,7 +31,7 @@ module _ {A : Type 0} (a : A) where
   refused-first (r ∷ rs) n d e = go (r .when) refl e (λ q. refused-first rs n d q)
     where
       go : (t : Bool) → r .when ≡ t → pick t (refused (r .number) (r .detail)) (judged rs a) ≡ refused n d
-        → (judged rs a ≡ refused n d → First rs n d) → First (r ∷ rs) n d
+          → (judged rs a ≡ refused n d → First rs n d) → First (r ∷ rs) n d
       go true w q more = inl (w, cc, cc)
       go false w q more = inr (w, more q)
 

@@ -1,0 +1,2 @@
+pub mod PixelPlaces
+pub mod CellCodes

@@ -1,0 +1,133 @@
+-- Where a displayed position's pixel stands, and what the cursor covers at one of its positions.
+use Prim.Native.Nat.{ℕ, _+_, _*_, _-_, _/_, _%_, _^_, _<_, _≤_}
+use mathlib.Core.Bool.{Bool, true, false, _&&_}
+use mathlib.Core.List.{List}
+use mathlib.Core.Path.{_≡_, refl, sym, _∙_, ap}
+use native.Mathlib.Nat.{mul-assoc, add-sub-cancel-left, mul-lt-mul-of-pos-right}
+use native.Mathlib.Omega.{arith}
+use borrow.Author.Tests.{eq-eqb, ne-eqb, eqb-true, lt-ltb}
+use lib.Arith.{digits-lt}
+use lib.Dec.{eqb}
+use lib.ListN.{length, getD}
+use lib.Pow.{pow-mono}
+use Rattle.buffers.specs.Pick.{pick}
+use Rattle.buffers.proofs.Tests.{no, unless, and-split}
+use Rattle.buffers.proofs.Product.{product-below}
+use Rattle.registers.specs.Setting.{videoWords, cursorWords}
+use Rattle.registers.specs.declared.setting.Setting.{Setting}
+use Rattle.registers.proofs.Accepted.{Accepted, cursor-off, cursor-words}
+use Rattle.registers.proofs.Words.{rasterWords, raster-bits, depth-least, depth-most, video-rasters, cursor-raster}
+use Rattle.frame.specs.Pixel.{pixel, position, logical, cursorPair}
+use Rattle.frame.specs.Cell.{inDisplay, plainCode, covered}
+use Rattle.frame.proofs.PixelPlaces.{pixel-below}
+use Rattle.frame.proofs.CellCodes.{Displayed, Covered, displayed, in-display, is-covered, five-covered, plain-five}
+use Rattle.marks.specs.Bright.{Ready, OnCursor, cursorBright, rasterBright, cursorRaster, coveredAll}
+use Rattle.marks.specs.Count.{total}
+use Rattle.marks.proofs.Totals.{total-none}
+
+module _ (s : Setting) (x y : ℕ) (a : Accepted s) (h : Displayed s x y) where
+  pub rows-small : (y - s .vds .0) * (s .de .0 - s .ds .0) < 1025 * 2049
+  rows-small =
+      let v = a .display (h .on) in
+      let high : y - s .vds .0 < 1025 = omega arith in
+      let wide : s .de .0 - s .ds .0 < 2049 = omega arith in
+      product-below (y - s .vds .0) (s .de .0 - s .ds .0) high wide
+
+  pub position-small : position s x y < 2 ^ 32
+  position-small = omega (arith, rows-small, a .n-most)
+
+  -- The pixel's bits stand in the words.
+  pub pixel-room : (n : ℕ) → n ≡ videoWords s → position s x y * s .depth < n * 32
+  pixel-room n e =
+      let w = s .de .0 - s .ds .0 in
+      let high = s .vde .0 - s .vds .0 in
+      let r : y - s .vds .0 < high = omega arith in
+      let p : x - s .ds .0 < w = omega arith in
+      let bits : high * w * s .depth ≡ n * 32 = rw (e, video-rasters s a (h .on), mul-assoc, mul-assoc high (rasterWords s) 32, raster-bits s a) in
+      rw (← bits) (mul-lt-mul-of-pos-right (digits-lt r p) (depth-least (a .depth)))
+
+pub pixel-entry : (s : Setting) (ws : List ℕ) (i : ℕ) → Accepted s → pixel ws (s .depth) i < 256
+pixel-entry s ws i a = omega (arith, pixel-below ws (s .depth) i, pow-mono {j = 8} (depth-most (a .depth)))
+
+module _ (s : Setting) (video cursor pixels : List ℕ) (a : Accepted s) (y i : ℕ) where
+  -- Outside the display, and where the pair is 00, nothing is covered.
+  pub cursor-out : (Displayed s (s .cx .0 + i) y → ⊥) → 0 ≡ cursorBright s video cursor pixels y i
+  unfolding cursorBright
+  cursor-out h =
+      let off : eqb (plainCode s (s .cx .0 + i) y) 5 ≡ false = plain-five s (s .cx .0 + i) y a ∙ unless (inDisplay s (s .cx .0 + i) y) (λ e. h (displayed s (s .cx .0 + i) y e)) in
+      rw off
+
+  pub cursor-clear : cursorPair s cursor y i ≡ 0 → 0 ≡ cursorBright s video cursor pixels y i
+  unfolding cursorBright
+  cursor-clear e =
+      let x = s .cx .0 + i in
+      let back : cursorPair s cursor y (x - s .cx .0) ≡ 0 = ap (cursorPair s cursor y) (add-sub-cancel-left (s .cx .0) i) ∙ e in
+      let off : (eqb (plainCode s x y) 5 && covered s cursor x y) ≡ false =
+      unless (eqb (plainCode s x y) 5 && covered s cursor x y)
+      (λ t. no (sym (is-covered s x y cursor (and-split (eqb (plainCode s x y) 5) (covered s cursor x y) t .1) .shown) ∙ eq-eqb (cursorPair s cursor y (x - s .cx .0)) 0 back)) in
+      rw off
+
+  pub cursor-shown : Displayed s (s .cx .0 + i) y → Covered s cursor (s .cx .0 + i) y
+      → getD pixels (logical s video (s .cx .0 + i) y) 0 ≡ cursorBright s video cursor pixels y i
+  unfolding cursorBright
+  cursor-shown d c =
+      let x = s .cx .0 + i in
+      let five : eqb (plainCode s x y) 5 ≡ true = plain-five s x y a ∙ in-display s x y d in
+      rw (five, five-covered s x y cursor (eqb-true (plainCode s x y) 5 five) c)
+
+module _ (s : Setting) (cursor : List ℕ) (j : ℕ) where
+  pub pair-is : (i : ℕ) → cursorPair s cursor (s .vcs .0 + j) i ≡ getD cursor (2 * j + i / 16) 0 / 2 ^ (2 * (i % 16)) % 4
+  unfolding cursorPair
+  pair-is i = rw (add-sub-cancel-left (s .vcs .0) j)
+
+  pub raster-small : {video : List ℕ} → Ready s video cursor → j < length cursor / 2 → s .vcs .0 + j < 1024
+  raster-small r l =
+      let c = cursor-raster s j (rw (r .cursor-words) at l) in
+      omega (arith, r .accepted .cursor (c .on), r .accepted .v-most)
+
+  module _ (o : OnCursor s cursor j) where
+    pub raster-displayed : (x : ℕ) → s .ds .0 ≤ x → x < s .de .0 → Displayed s x (s .vcs .0 + j)
+    raster-displayed x l m =
+        record {
+          on = lt-ltb (s .vds .0) (s .vde .0) (omega arith);
+          ds-x = l;
+          x-de = m;
+          vds-y = o .vds-y;
+          y-vde = o .y-vde;
+        }
+
+    pub raster-covered : {video : List ℕ} (i : ℕ) → Ready s video cursor → i < 32 → (cursorPair s cursor (s .vcs .0 + j) i ≡ 0 → ⊥)
+        → Covered s cursor (s .cx .0 + i) (s .vcs .0 + j)
+    raster-covered i r l h =
+        let c = cursor-raster s j (rw (r .cursor-words) at (o .here)) in
+        let back : cursorPair s cursor (s .vcs .0 + j) (s .cx .0 + i - s .cx .0) ≡ cursorPair s cursor (s .vcs .0 + j) i =
+        ap (cursorPair s cursor (s .vcs .0 + j)) (add-sub-cancel-left (s .cx .0) i) in
+        record {
+          on = c .on;
+          vcs-y = omega arith;
+          y-vce = c .y-vce;
+          cx-x = omega arith;
+          x-end = omega arith;
+          shown = ne-eqb (cursorPair s cursor (s .vcs .0 + j) (s .cx .0 + i - s .cx .0)) 0 (λ e. h (sym back ∙ e));
+        }
+
+module _ (s : Setting) (video cursor pixels : List ℕ) (a : Accepted s) where
+  pub raster-out : (j : ℕ) → ((x : ℕ) → Displayed s x (s .vcs .0 + j) → ⊥) → 0 ≡ cursorRaster s video cursor pixels j
+  unfolding cursorRaster rasterBright
+  raster-out j h =
+      sym (total-none (cursorBright s video cursor pixels (s .vcs .0 + j)) 32
+      (λ i l. sym (cursor-out s video cursor pixels a (s .vcs .0 + j) i (h (s .cx .0 + i)))))
+
+  covered-by : (on : Bool) → s .cursor ≡ on → length cursor ≡ cursorWords s
+      → total (cursorRaster s video cursor pixels) (length cursor / 2) ≡ pick on (total (cursorRaster s video cursor pixels) (s .vce .0 - s .vcs .0)) 0
+  unfolding total
+  covered-by true on e =
+      let end : length cursor / 2 ≡ s .vce .0 - s .vcs .0 = omega (arith, e ∙ cursor-words s on) in
+      ap (total (cursorRaster s video cursor pixels)) end
+  covered-by false off e =
+      let end : length cursor / 2 ≡ 0 = omega (arith, e ∙ cursor-off s off) in
+      ap (total (cursorRaster s video cursor pixels)) end
+
+  pub covered-words : length cursor ≡ cursorWords s → total (cursorRaster s video cursor pixels) (length cursor / 2) ≡ coveredAll s video cursor pixels
+  unfolding coveredAll
+  covered-words e = covered-by (s .cursor) refl e

@@ -1,0 +1,50 @@
+-- Tables filled entry by entry.
+use Prim.Native.Nat.{ℕ, _+_, _-_, _<_, _≤_}
+use mathlib.Core.Bool.{Bool, true, false}
+use mathlib.Core.List.{List}
+use mathlib.Core.Path.{_≡_, refl, sym, _∙_, ap}
+use native.Mathlib.Omega.{arith}
+use borrow.Author.Count.{below-more}
+use borrow.Author.Tests.{le-leb, lt-leb, ltb-true, ltb-false}
+use lib.Dec.{leb, ltb}
+use lib.ListN.{getD, set, length-set, List·getD-eq-default}
+use lib.Seq.{getD-set-same, getD-set-other}
+use Rattle.registers.specs.declared.record.Registers.{Registers}
+use Rattle.colours.specs.Colour.{colourOf}
+use Rattle.colours.specs.Grey.{greyOf}
+use Rattle.marks.specs.Count.{bit}
+use Rattle.marks.specs.Bright.{Tabled, AtMost, bright}
+
+pub tabled-more : {table : List ℕ} {k v : ℕ} {f : ℕ → ℕ} → Tabled table k f → k < 256 → v ≡ f k → Tabled (set table k v) (k + 1) f
+tabled-more {table} {k} {v} {f} t l e =
+    record {
+      len = length-set table k v ∙ t .len;
+      on = below-more (λ i. getD (set table k v) i 0 ≡ f i) k
+          (λ i m. getD-set-other table k i v 0 (λ q. omega arith) ∙ t .on i m)
+          (getD-set-same table k v 0 (omega (arith, t .len)) ∙ e);
+    }
+
+module _ (g : Registers) (d threshold p c r : ℕ) (e : c ≡ colourOf g d p) (f : r ≡ greyOf c) where
+  as-grey : leb threshold r ≡ leb threshold (greyOf (colourOf g d p))
+  as-grey = ap (leb threshold) (f ∙ ap greyOf e)
+
+  pub bright-yes : threshold ≤ r → 1 ≡ bright g d threshold p
+  bright-yes l = ap bit (sym (le-leb threshold r l) ∙ as-grey)
+
+  pub bright-no : r < threshold → 0 ≡ bright g d threshold p
+  bright-no l = ap bit (sym (lt-leb threshold r l) ∙ as-grey)
+
+-- A whole table's bound is its rule's.
+pub tabled-most : {table : List ℕ} {f : ℕ → ℕ} {m : ℕ} → Tabled table 256 f → ((k : ℕ) → f k ≤ m) → AtMost table m
+tabled-most {table} {f} {m} t h = record { most = λ k. by k (ltb k 256) refl }
+  where
+    by : (k : ℕ) (low : Bool) → ltb k 256 ≡ low → getD table k 0 ≤ m
+    by k true e = rw (t .on k (ltb-true k 256 e)) (h k)
+    by k false e = rw (List·getD-eq-default table 0 {n = k} (omega (arith, t .len, ltb-false k 256 e))) (omega arith)
+
+pub bit-most : (test : Bool) → bit test ≤ 1
+bit-most true = omega arith
+bit-most false = omega arith
+
+pub bright-most : (g : Registers) (d threshold : ℕ) {pixels : List ℕ} → Tabled pixels 256 (bright g d threshold) → AtMost pixels 1
+bright-most g d threshold t = tabled-most t (λ p. bit-most (leb threshold (greyOf (colourOf g d p))))

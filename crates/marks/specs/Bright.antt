@@ -1,0 +1,82 @@
+-- What the functions inside count: bright pixels by a table, and those of them that the cursor covers.
+use Prim.Native.Nat.{ℕ, _+_, _*_, _-_, _/_, _%_, _^_, _<_, _≤_}
+use mathlib.Core.Bool.{_&&_}
+use mathlib.Core.List.{List}
+use mathlib.Core.Path.{_≡_}
+use lib.ListN.{length, getD}
+use lib.Dec.{leb, eqb}
+use Rattle.buffers.specs.Pick.{pick}
+use Rattle.registers.specs.declared.record.Registers.{Registers}
+use Rattle.registers.specs.declared.setting.Setting.{Setting}
+use Rattle.registers.specs.Setting.{videoWords, cursorWords}
+use Rattle.registers.proofs.Accepted.{Accepted}
+use Rattle.colours.specs.Colour.{colourOf}
+use Rattle.colours.specs.Grey.{greyOf}
+use Rattle.frame.specs.Pixel.{pixel, logical}
+use Rattle.frame.specs.Cell.{plainCode, covered}
+use Rattle.marks.specs.Count.{total, bit}
+
+-- A pixel is bright if its grey is at or above the threshold.
+abbrev pub bright : Registers → ℕ → ℕ → ℕ → ℕ
+bright g d threshold p = bit (leb threshold (greyOf (colourOf g d p)))
+
+-- A table of 256 whose first n entries are given by a rule.
+pub record Tabled (table : List ℕ) (n : ℕ) (f : ℕ → ℕ) : Type 0 where
+  pub len : length table ≡ 256
+  pub on : (k : ℕ) → k < n → getD table k 0 ≡ f k
+
+pub record AtMost (table : List ℕ) (m : ℕ) : Type 0 where
+  pub most : (k : ℕ) → getD table k 0 ≤ m
+
+-- The table's sum over the pixels of a byte, lowest bits first.
+abbrev pub field : ℕ → ℕ → ℕ → ℕ
+field w d j = w / 2 ^ (j * d) % 2 ^ d
+
+abbrev pub fieldBright : List ℕ → ℕ → ℕ → ℕ → ℕ
+fieldBright pixels d b j = getD pixels (field b d j) 0
+
+unfoldable pub byteBright : List ℕ → ℕ → ℕ → ℕ
+byteBright pixels d b = total (fieldBright pixels d b) (8 / d)
+
+-- Logical pixel i of a list of words.
+abbrev pub pixelBright : List ℕ → List ℕ → ℕ → ℕ → ℕ
+pixelBright pixels ws d i = getD pixels (pixel ws d i) 0
+
+-- A table of bytes, over the four bytes of a word, and over the words of a list.
+abbrev pub wordBright : List ℕ → ℕ → ℕ
+wordBright bytes w =
+    getD bytes (w % 256) 0 + getD bytes (w / 0x100 % 256) 0 + getD bytes (w / 0x1_0000 % 256) 0 + getD bytes (w / 0x100_0000 % 256) 0
+
+abbrev pub wordAt : List ℕ → List ℕ → ℕ → ℕ
+wordAt bytes ws k = wordBright bytes (getD ws k 0)
+
+-- Position x of raster y, where code 5 would apply and the cursor covers it.
+abbrev pub coveredBright : Setting → List ℕ → List ℕ → List ℕ → ℕ → ℕ → ℕ
+coveredBright s video cursor pixels y x =
+    pick (eqb (plainCode s x y) 5 && covered s cursor x y) (getD pixels (logical s video x y) 0) 0
+
+-- Cursor position i of raster y, a raster's 32, and the cursor's raster j.
+unfoldable pub cursorBright : Setting → List ℕ → List ℕ → List ℕ → ℕ → ℕ → ℕ
+cursorBright s video cursor pixels y i = coveredBright s video cursor pixels y (s .cx .0 + i)
+
+unfoldable pub rasterBright : Setting → List ℕ → List ℕ → List ℕ → ℕ → ℕ
+rasterBright s video cursor pixels y = total (cursorBright s video cursor pixels y) 32
+
+unfoldable pub cursorRaster : Setting → List ℕ → List ℕ → List ℕ → ℕ → ℕ
+cursorRaster s video cursor pixels j = rasterBright s video cursor pixels (s .vcs .0 + j)
+
+-- All that the cursor covers, where it is on.
+unfoldable pub coveredAll : Setting → List ℕ → List ℕ → List ℕ → ℕ
+coveredAll s video cursor pixels = pick (s .cursor) (total (cursorRaster s video cursor pixels) (s .vce .0 - s .vcs .0)) 0
+
+-- An accepted setting, with as many words as it needs.
+pub record Ready (s : Setting) (video cursor : List ℕ) : Type 0 where
+  pub accepted : Accepted s
+  pub video-words : length video ≡ videoWords s
+  pub cursor-words : length cursor ≡ cursorWords s
+
+-- Cursor raster j is there, and displayed.
+pub record OnCursor (s : Setting) (cursor : List ℕ) (j : ℕ) : Type 0 where
+  pub here : j < length cursor / 2
+  pub vds-y : s .vds .0 ≤ s .vcs .0 + j
+  pub y-vde : s .vcs .0 + j < s .vde .0

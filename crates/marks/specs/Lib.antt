@@ -1,0 +1,3 @@
+pub mod Count
+pub mod Bright
+pub mod Marks

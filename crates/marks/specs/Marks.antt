@@ -1,0 +1,36 @@
+-- The mark count for a threshold: the number of code 5 cells of the frame whose grey is at or above it.
+use Prim.Native.Nat.{ℕ, _/_, _%_}
+use mathlib.Core.Bool.{Bool, _&&_}
+use mathlib.Core.List.{List, [], _∷_}
+use lib.Dec.{leb, eqb}
+use Rattle.registers.specs.Table.{Told, given, row, judged, andThen, refusal}
+use Rattle.registers.specs.Check.{checkTold}
+use Rattle.registers.specs.declared.record.Registers.{Registers}
+use Rattle.registers.specs.declared.setting.Setting.{Setting}
+use Rattle.colours.specs.Grey.{greyOf}
+use Rattle.frame.specs.Frame.{wordsWrong, cells, frameCell}
+use Rattle.marks.specs.Count.{countBelow}
+use Rattle.marks.specs.declared.answer.Marks.{Marks}
+use Rattle.marks.specs.declared.answer.Marks.the-variants.{Count, Refused}
+
+-- A cell is its code × 8192 and its colour.
+abbrev pub isMark : ℕ → ℕ → Bool
+isMark threshold cell = eqb (cell / 8192) 5 && leb threshold (greyOf (cell % 8192))
+
+-- Whether the cell at place k of the frame is a mark.
+abbrev pub markAt : Registers → Setting → List ℕ → List ℕ → ℕ → ℕ → Bool
+markAt g s video cursor threshold k = isMark threshold (frameCell g s video cursor k)
+
+unfoldable pub marksOf : Registers → Setting → List ℕ → List ℕ → ℕ → ℕ
+marksOf g s video cursor threshold = countBelow (markAt g s video cursor threshold) (cells s)
+
+-- Refusals: the setting's, then 11.
+unfoldable pub marksTold : Registers → List ℕ → List ℕ → ℕ → Told ℕ
+marksTold g video cursor threshold =
+    andThen (checkTold g)
+    (λ s. judged (row 11 (wordsWrong s video cursor) 0 ∷ []) (marksOf g s video cursor threshold))
+
+-- What an answer tells.
+abbrev pub marksSays : Marks → Told ℕ
+marksSays (Count n) = given n
+marksSays (Refused why) = refusal why

@@ -1,0 +1,8 @@
+// What the mark count answers.
+use registers::refusal::Refusal;
+
+pub enum Marks {
+    // the number of marks
+    Count(u32),
+    Refused(Refusal),
+}

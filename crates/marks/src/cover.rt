@@ -1,0 +1,98 @@
+// Bright pixels that the cursor covers: at most 32 positions of each of its rasters.
+use crate::pixels::pixel_at;
+use crate::walk::entry;
+use registers::setting::Setting;
+ghost use mathlib.Core.Path.{_≡_};
+ghost use Prim.Native.Nat.{_+_, _*_, _/_, _%_, _^_, _<_, _≤_};
+ghost use lib.ListN.{length, getD};
+ghost use Rattle.registers.specs.Setting.{videoWords};
+ghost use Rattle.registers.proofs.Accepted.{Accepted};
+ghost use Rattle.frame.specs.Pixel.{position, logical};
+ghost use Rattle.frame.proofs.CellCodes.{Displayed};
+ghost use Rattle.marks.specs.Bright.{Ready, OnCursor, cursorBright, cursorRaster, coveredAll};
+
+// Where a displayed position's pixel stands among all.
+fn place(s: Setting, x: usize, y: usize) -> usize
+    requires { ⌜ Accepted s × Displayed s x y ⌝ }
+    ensures { λ r. ⌜ r ≡ position s x y ⌝ }
+{
+    (y - s.vds.0 as usize) * (s.de.0 as usize - s.ds.0 as usize) + (x - s.ds.0 as usize)
+}
+
+// What the table has for the pixel of a displayed position.
+fn shown_at(s: Setting, video: &[u32], pixels: &[u8; 256], x: usize, y: usize) -> u32
+    requires { ⌜ Accepted s × Displayed s x y × (length (now video) ≡ videoWords s) ⌝ }
+    ensures { λ r. ⌜ (r ≡ getD (now (pixels .entry)) (logical s (now (video .entry)) x y) 0) × (r ≤ 255) ⌝ }
+{
+    let at = place(s, x, y);
+    entry(pixels, pixel_at(video, s.depth as usize, at))
+}
+
+// Bit pair i of cursor raster j.
+fn pair_at(cursor: &[u32], j: usize, i: usize) -> u32
+    requires { ⌜ (2 * j + 1 < length (now cursor)) × (i < 32) ⌝ }
+    ensures { λ r. ⌜ r ≡ getD (now (cursor .entry)) (2 * j + i / 16) 0 / 2 ^ (2 * (i % 16)) % 4 ⌝ }
+{
+    (cursor[2 * j + i / 16] >> (2 * (i % 16))) % 4
+}
+
+// Position i of cursor raster j, which is displayed: what the table has for the pixel there, if the cursor covers it.
+fn covered_at(
+    s: Setting,
+    video: &[u32],
+    cursor: &[u32],
+    pixels: &[u8; 256],
+    j: usize,
+    i: usize,
+) -> u32
+    requires { ⌜ Ready s (now video) (now cursor) × OnCursor s (now cursor) j × (i < 32) ⌝ }
+    ensures { λ r. ⌜ (r ≡ cursorBright s (now (video .entry)) (now (cursor .entry)) (now (pixels .entry)) (s .vcs .0 + j) i) × (r ≤ 255) ⌝ }
+{
+    let x = s.cx.0 as usize + i;
+    if x < s.ds.0 as usize {
+        return 0;
+    }
+    if x >= s.de.0 as usize {
+        return 0;
+    }
+    if pair_at(cursor, j, i) == 0 {
+        return 0;
+    }
+    shown_at(s, video, pixels, x, s.vcs.0 as usize + j)
+}
+
+// Cursor raster j: the sum over its 32 positions.
+fn covered_in(s: Setting, video: &[u32], cursor: &[u32], pixels: &[u8; 256], j: usize) -> u32
+    requires { ⌜ Ready s (now video) (now cursor) × (j < length (now cursor) / 2) ⌝ }
+    ensures { λ r. ⌜ (r ≡ cursorRaster s (now (video .entry)) (now (cursor .entry)) (now (pixels .entry)) j) × (r ≤ 8160) ⌝ }
+{
+    let y = s.vcs.0 as usize + j;
+    if y < s.vds.0 as usize {
+        return 0;
+    }
+    if y >= s.vde.0 as usize {
+        return 0;
+    }
+    let mut sum: u32 = 0;
+    let mut i: usize = 0;
+    while i < 32 {
+        sum += covered_at(s, video, cursor, pixels, j, i);
+        i += 1;
+    }
+    sum
+}
+
+// All that the cursor covers: two words a raster, and none where it is off.
+pub fn covered(s: Setting, video: &[u32], cursor: &[u32], pixels: &[u8; 256]) -> u32
+    requires { ⌜ Ready s (now video) (now cursor) ⌝ }
+    ensures { λ r. ⌜ r ≡ coveredAll s (now (video .entry)) (now (cursor .entry)) (now (pixels .entry)) ⌝ }
+{
+    let end = cursor.len() / 2;
+    let mut sum: u32 = 0;
+    let mut j: usize = 0;
+    while j < end {
+        sum += covered_in(s, video, cursor, pixels, j);
+        j += 1;
+    }
+    sum
+}

@@ -1,0 +1,31 @@
+// The mark count: bright display cells, counted without a frame.
+pub mod answer;
+mod count;
+mod cover;
+mod pixels;
+mod tables;
+mod walk;
+
+use crate::answer::Marks;
+use crate::count::count;
+use crate::count::words_wrong;
+use registers::check::Checked;
+use registers::record::Registers;
+use registers::refusal::Refusal;
+ghost use mathlib.Core.Path.{_≡_};
+ghost use Rattle.marks.specs.Marks.{marksTold, marksSays};
+
+// How many code 5 cells of the frame have a grey at or above the threshold.
+pub fn marks(g: Registers, video: &[u32], cursor: &[u32], threshold: u8) -> Marks
+    ensures { λ r. ⌜ marksSays r ≡ marksTold g (now (video .entry)) (now (cursor .entry)) threshold ⌝ }
+{
+    match g.check() {
+        Checked::Refused(why) => Marks::Refused(why),
+        Checked::Accepted(s) => {
+            if words_wrong(s, video, cursor) {
+                return Marks::Refused(Refusal::WordCount);
+            }
+            Marks::Count(count(g, s, video, cursor, threshold))
+        }
+    }
+}

@@ -1,0 +1,62 @@
+// Tables of 256: which pixels are bright, and how many of each byte's pixels are.
+use crate::pixels::low_bits;
+use colours::colour;
+use colours::grey;
+use registers::record::Registers;
+ghost use mathlib.Core.Path.{_≡_};
+ghost use Prim.Native.Nat.{_≤_, _<_};
+ghost use Rattle.registers.proofs.Accepted.{Depth};
+ghost use Rattle.marks.specs.Bright.{Tabled, AtMost, bright, byteBright};
+
+// 1 if the grey of a pixel is at or above the threshold, else 0.
+fn is_bright(g: Registers, depth: u8, threshold: u8, pixel: u8) -> u8
+    ensures { λ r. ⌜ r ≡ bright g depth threshold pixel ⌝ }
+{
+    if threshold <= grey(colour(g, depth, pixel)) {
+        return 1;
+    }
+    0
+}
+
+pub fn bright_pixels(g: Registers, depth: u8, threshold: u8) -> [u8; 256]
+    ensures { λ r. ⌜ Tabled r 256 (bright g depth threshold) ⌝ }
+{
+    let mut table = [0u8; 256];
+    let mut k: usize = 0;
+    while k < 256 {
+        table[k] = is_bright(g, depth, threshold, k as u8);
+        k += 1;
+    }
+    table
+}
+
+// How many of a byte's pixels are bright.
+fn in_byte(pixels: &[u8; 256], depth: u32, byte: u32) -> u8
+    requires { ⌜ Depth depth × AtMost (now pixels) 1 ⌝ }
+    ensures { λ r. ⌜ r ≡ byteBright (now (pixels .entry)) depth byte ⌝ }
+{
+    let end = 8 / depth;
+    let mut rest = byte;
+    let mut sum: u8 = 0;
+    let mut j: u32 = 0;
+    while j < end {
+        sum += pixels[low_bits(rest, depth)];
+        rest = rest >> depth;
+        j += 1;
+    }
+    sum
+}
+
+pub fn bright_bytes(pixels: &[u8; 256], depth: u8) -> [u8; 256]
+    requires { ⌜ Depth depth × AtMost (now pixels) 1 ⌝ }
+    ensures { λ r. ⌜ Tabled r 256 (byteBright (now (pixels .entry)) depth) ⌝ }
+{
+    let mut table = [0u8; 256];
+    let mut k: u32 = 0;
+    while k < 256 {
+        let at = k as usize;
+        table[at] = in_byte(pixels, depth as u32, k);
+        k += 1;
+    }
+    table
+}
