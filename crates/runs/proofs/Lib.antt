@@ -1,3 +1,4 @@
 pub mod Tens
 pub mod Lengths
 pub mod Stored
+pub mod Puts

@@ -1,3 +1,4 @@
 // The run printer's text: numbers, runs and lines, byte for byte.
 mod line;
 mod number;
+mod words;

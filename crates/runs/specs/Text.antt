@@ -1,0 +1,64 @@
+-- The printer's text: the head and a line for each raster, or one line that refuses.
+use Prim.Native.Nat.{ℕ, zero, suc, _+_, _-_}
+use mathlib.Core.List.{List, [], _∷_, _++_}
+use lib.ListN.{length}
+use lib.Dec.{eqb, leb}
+use Rattle.buffers.specs.Pick.{pick}
+use Rattle.registers.specs.Table.{Told, given, refused}
+use Rattle.registers.specs.declared.record.Registers.{Registers}
+use Rattle.registers.specs.declared.setting.Setting.{Setting}
+use Rattle.frame.specs.Frame.{rasterCell}
+use Rattle.marks.specs.Marks.{marksOf}
+use Rattle.runs.specs.Decimal.{decimal}
+use Rattle.runs.specs.Runs.{lineOf}
+use Rattle.runs.specs.Sheet.{registersOf, videoList, cursorList, sheetTold}
+
+-- A number behind some letters.
+unfoldable pub labelled : List ℕ → ℕ → List ℕ
+labelled label n = label ++ decimal n
+
+-- `refused`, number, detail.
+unfoldable pub refusedLine : ℕ → ℕ → List ℕ
+refusedLine n d = labelled (114 ∷ 101 ∷ 102 ∷ 117 ∷ 115 ∷ 101 ∷ 100 ∷ 32 ∷ []) n ++ (labelled (32 ∷ []) d ++ (10 ∷ []))
+
+-- `frame N V words W marks M`.
+unfoldable pub headLine : ℕ → ℕ → ℕ → ℕ → List ℕ
+headLine n v w m =
+    labelled (102 ∷ 114 ∷ 97 ∷ 109 ∷ 101 ∷ 32 ∷ []) n
+    ++ (labelled (32 ∷ []) v
+    ++ (labelled (32 ∷ 119 ∷ 111 ∷ 114 ∷ 100 ∷ 115 ∷ 32 ∷ []) w
+    ++ (labelled (32 ∷ 109 ∷ 97 ∷ 114 ∷ 107 ∷ 115 ∷ 32 ∷ []) m ++ (10 ∷ []))))
+
+-- The values of a rule at n places from k on.
+unfoldable pub valuesFrom : (ℕ → ℕ) → ℕ → ℕ → List ℕ
+valuesFrom rule k zero = []
+valuesFrom rule k (suc n) = rule k ∷ valuesFrom rule (suc k) n
+
+-- The line of raster y.
+unfoldable pub rasterLine : Registers → Setting → List ℕ → List ℕ → ℕ → List ℕ
+rasterLine g s video cursor y = lineOf (valuesFrom (rasterCell g s video cursor y) 0 (s .n .0))
+
+-- Line k of a plate: 0 is the head, with threshold 128; then one for each raster; none after them.
+unfoldable pub pictureLine : Registers → Setting → List ℕ → List ℕ → ℕ → List ℕ
+pictureLine g s video cursor k =
+    pick (eqb k 0) (headLine (s .n .0) (s .v .0) (length video) (marksOf g s video cursor 128))
+    (pick (leb k (s .v .0)) (rasterLine g s video cursor (k - 1)) [])
+
+abbrev pub lineFor : List ℕ → ℕ → Told Setting → List ℕ
+lineFor file k (given s) = pictureLine (registersOf file) s (videoList file) (cursorList file) k
+lineFor file k (refused n d) = pick (eqb k 0) (refusedLine n d) []
+
+unfoldable pub lineAt : List ℕ → ℕ → List ℕ
+lineAt file k = lineFor file k (sheetTold file)
+
+-- How many lines there are, and the whole text: they stand one after the other.
+abbrev pub linesFor : Told Setting → ℕ
+linesFor (given s) = 1 + s .v .0
+linesFor (refused n d) = 1
+
+unfoldable pub firstLines : List ℕ → ℕ → List ℕ
+firstLines file zero = []
+firstLines file (suc n) = firstLines file n ++ lineAt file n
+
+unfoldable pub textOf : List ℕ → List ℕ
+textOf file = firstLines file (linesFor (sheetTold file))
