@@ -2,3 +2,4 @@ pub mod Tens
 pub mod Lengths
 pub mod Stored
 pub mod Puts
+pub mod Sheets

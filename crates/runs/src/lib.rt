@@ -1,4 +1,5 @@
 // The run printer's text: numbers, runs and lines, byte for byte.
 mod line;
 mod number;
+mod sheet;
 mod words;

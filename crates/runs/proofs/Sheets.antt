@@ -1,0 +1,168 @@
+-- Laws of opening a plate: each refusal in its order, and what is held where there is none.
+use Prim.Native.Nat.{ℕ, _+_, _*_, _-_, _/_, _<_, _≤_}
+use mathlib.Core.Path.{_≡_, refl, sym, _∙_, ap}
+use mathlib.Core.Bool.{true, false}
+use mathlib.Core.List.{List, [], _∷_, _++_}
+use native.Mathlib.Omega.{arith}
+use lib.ListN.{length, take, drop, length-drop}
+use lib.Seq.{sets, sets-eq, drop-append-le, take-append-le, length-sets, length-take-le}
+use lib.Dec.{ltb}
+use borrow.Author.Tests.{lt-ltb, le-ltb}
+use Rattle.buffers.specs.Words.{wordsOf}
+use Rattle.buffers.proofs.Words.{length-words}
+use Rattle.registers.specs.Table.{Told, given, refused, refusal, told, unlessRefused}
+use Rattle.registers.specs.Record.{fresh}
+use Rattle.registers.specs.Load.{applied, loadTold}
+use Rattle.registers.specs.Check.{checkTold, checkSays}
+use Rattle.registers.specs.declared.record.Registers.{Registers}
+use Rattle.registers.specs.declared.refusal.Refusal.{Refusal}
+use Rattle.registers.specs.declared.refusal.Answer.{Answer}
+use Rattle.registers.specs.declared.refusal.Answer.the-variants as answer
+use Rattle.registers.specs.declared.setting.Setting.{Setting}
+use Rattle.registers.specs.declared.check.Checked.{Checked}
+use Rattle.registers.specs.declared.check.Checked.the-variants as checked
+use Rattle.registers.proofs.Tables.{never}
+use Rattle.frame.specs.Frame.{wordsWrong}
+use Rattle.plates.specs.Plate.{rOf, vOf, cOf, sOf, sectionsOf}
+use Rattle.plates.specs.Read.{toldRead, readTold, copyTold, copied}
+use Rattle.plates.specs.declared.Sections.{Sections}
+use Rattle.plates.specs.declared.Reading.{Reading}
+use Rattle.plates.specs.declared.Reading.the-variants as reading
+use Rattle.plates.proofs.Calls.{right-given, right-ordered, copy-done}
+use Rattle.runs.specs.Sheet.{mostInput, part, registerWords, videoList, cursorList, registersOf, pictureTold, sheetTold, wordsTold, OpenedWords, Held, OpenedFrom}
+use Rattle.runs.specs.declared.sheet.Opened.{Opened}
+
+-- judging a setting and its word counts
+module _ (g : Registers) (video cursor : List ℕ) (x : Checked) (e : checkSays x ≡ checkTold g) where
+  pub picture-refused : (why : Refusal) → x ≡ checked.Refused why → refusal why ≡ pictureTold g video cursor
+  unfolding pictureTold
+  picture-refused why q = rw (← e, q)
+
+  pub picture-wrong : (s : Setting) → x ≡ checked.Accepted s → wordsWrong s video cursor ≡ true → refused 11 0 ≡ pictureTold g video cursor
+  unfolding pictureTold
+  picture-wrong s q w = rw (← e, q, w)
+
+  pub picture-right : (s : Setting) → x ≡ checked.Accepted s → wordsWrong s video cursor ≡ false → given s ≡ pictureTold g video cursor
+  unfolding pictureTold
+  picture-right s q w = rw (← e, q, w)
+
+-- words loaded and judged
+module _ (words : List ℕ) (video cursor sound : ℕ) (a : Answer) (e : told a ≡ loadTold (part words 0 video)) where
+  pub words-refused : (why : Refusal) (r : Opened) → a ≡ answer.Refused why → checkSays (r .checked) ≡ refusal why → OpenedWords words video cursor sound r
+  unfolding wordsTold
+  words-refused why r q c =
+      record {
+        says = c ∙ rw (← e, q);
+        held = λ s h. never (sym (rw (← e, q) at h))
+      }
+
+  pub words-loaded : (n g : Registers) (r : Opened) → a ≡ answer.Done → n ≡ fresh
+    → g ≡ unlessRefused (loadTold (part words 0 video)) n (applied n (part words 0 video))
+    → checkSays (r .checked) ≡ pictureTold g (part words video cursor) (part words cursor sound)
+    → r .registers ≡ g → r .video ≡ video → r .cursor ≡ cursor → r .sound ≡ sound → OpenedWords words video cursor sound r
+  unfolding wordsTold
+  words-loaded n g r q f h c i j k l =
+      let g-is : g ≡ applied fresh (part words 0 video) = h ∙ rw (← e, q, f) in
+      record {
+        says = c ∙ rw (← e, q, g-is);
+        held = λ s t. (i ∙ g-is, j, k, l)
+      }
+
+-- a file judged
+module _ (file words : List ℕ) (r : Opened) where
+  pub from-large : mostInput < length file → checkSays (r .checked) ≡ refused 15 0 → OpenedFrom file words r
+  unfolding sheetTold
+  from-large h c =
+      record {
+        says = c ∙ rw (lt-ltb mostInput (length file) h);
+        held = λ s t. never (sym (rw (lt-ltb mostInput (length file) h) at t))
+      }
+
+  pub from-wrong : length file ≤ mostInput → (x : Reading) (why : Refusal) → toldRead x ≡ readTold file → x ≡ reading.Refused why
+    → checkSays (r .checked) ≡ refusal why → OpenedFrom file words r
+  unfolding sheetTold
+  from-wrong h x why e q c =
+      record {
+        says = c ∙ rw (le-ltb mostInput (length file) h, ← e, q);
+        held = λ s t. never (sym (rw (le-ltb mostInput (length file) h, ← e, q) at t))
+      }
+
+-- a plate's sections, in order
+pub record Placed (file : List ℕ) (p : Sections) : Type 0 where
+  pub are : p ≡ sectionsOf file
+  pub v-r : p .v ≤ p .r
+  pub c-v : p .c ≤ p .v
+  pub s-c : p .s ≤ p .c
+  pub whole : 4 * p .r + 16 ≡ length file
+
+pub placed : (file : List ℕ) (x : Reading) (p : Sections) → toldRead x ≡ readTold file → x ≡ reading.Plate p → Placed file p
+placed file x p e q =
+    let g = right-given file p (sym (ap toldRead q) ∙ e) in
+    let o = right-ordered file (g .is-right) in
+    record {
+      are = g .are;
+      v-r = rw (g .are) (o .v-r);
+      c-v = rw (g .are) (o .c-v);
+      s-c = rw (g .are) (o .s-c);
+      whole = rw (g .are) (o .whole)
+    }
+
+-- a part of words that were stored from the first place on
+part-sets : (o ws : List ℕ) (from to : ℕ) → from ≤ to → to ≤ length ws → length ws ≤ length o → part (sets o 0 ws) from to ≡ part ws from to
+part-sets o ws from to a b c =
+    rw (sets-eq ws o 0 (omega arith), drop-append-le from ws _ (omega arith))
+    (take-append-le (to - from) (drop from ws) _ (rw length-drop (omega arith)))
+
+module _ (file o new : List ℕ) (x : Reading) (p : Sections) (short : length file ≤ mostInput) (e : toldRead x ≡ readTold file)
+  (q : x ≡ reading.Plate p) (room : 16384 ≤ length o) (after : new ≡ unlessRefused (copyTold file (length o)) o (sets o 0 (copied file))) where
+  length-copied : length (copied file) ≡ p .r
+  length-copied =
+      let k = placed file x p e q in
+      let r : p .r ≡ rOf file = ap (λ (s : Sections). s .r) (k .are) in
+      rw length-words (rw (length-take-le (4 * rOf file) file (omega (arith, k .whole))) (omega arith))
+
+  pub copied-out : new ≡ sets o 0 (copied file)
+  copied-out =
+      let k = placed file x p e q in
+      let done = copy-done file p (sym (ap toldRead q) ∙ e) o (sets o 0 (wordsOf (take (4 * p .r) file))) (omega (arith, k .whole)) refl in
+      after ∙ (sym (done .1) ∙ rw (k .are))
+
+  part-copied : (from to : ℕ) → from ≤ to → to ≤ p .r → part new from to ≡ part (copied file) from to
+  part-copied from to a b =
+      let k = placed file x p e q in
+      rw copied-out (part-sets o (copied file) from to a (omega (arith, length-copied)) (omega (arith, length-copied, k .whole)))
+
+  register-part : part new 0 (p .r - p .v) ≡ registerWords file
+  unfolding registerWords
+  register-part = let k = placed file x p e q in part-copied 0 (p .r - p .v) (omega arith) (omega arith) ∙ rw (k .are)
+
+  video-part : part new (p .r - p .v) (p .r - p .c) ≡ videoList file
+  unfolding videoList
+  video-part = let k = placed file x p e q in part-copied (p .r - p .v) (p .r - p .c) (omega (arith, k .c-v)) (omega arith) ∙ rw (k .are)
+
+  cursor-part : part new (p .r - p .c) (p .r - p .s) ≡ cursorList file
+  unfolding cursorList
+  cursor-part = let k = placed file x p e q in part-copied (p .r - p .c) (p .r - p .s) (omega (arith, k .s-c)) (omega arith) ∙ rw (k .are)
+
+  same-told : wordsTold new (p .r - p .v) (p .r - p .c) (p .r - p .s) ≡ sheetTold file
+  unfolding wordsTold sheetTold registersOf
+  same-told = rw (register-part, video-part, cursor-part, le-ltb mostInput (length file) short, ← e, q)
+
+  pub from-words : (r : Opened) → OpenedWords new (p .r - p .v) (p .r - p .c) (p .r - p .s) r → OpenedFrom file new r
+  unfolding registersOf
+  from-words r w =
+      record {
+        says = w .says ∙ same-told;
+        held = λ s t.
+          let h = w .held s (same-told ∙ t) in
+          let k = placed file x p e q in
+          let n : length new ≡ length o = rw copied-out (length-sets o 0 (copied file)) in
+          record {
+            registers = h .0 ∙ ap (applied fresh) register-part;
+            video-first = omega (arith, h .1, h .2, k .c-v);
+            cursor-first = omega (arith, h .2, h .3, k .s-c);
+            inside = omega (arith, h .3, k .whole, n);
+            video = rw (h .1, h .2) video-part;
+            cursor = rw (h .2, h .3) cursor-part
+          }
+      }
