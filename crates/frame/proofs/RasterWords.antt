@@ -13,8 +13,10 @@ use Rattle.buffers.proofs.Paints.{Paints, paint-as, paints-of, paints-painted}
 use Rattle.registers.specs.Setting.{displayOn, videoWords}
 use Rattle.registers.specs.declared.setting.Setting.{Setting}
 use Rattle.frame.specs.Pixel.{pixel, logical, rasterWords, firstWord}
-use Rattle.registers.proofs.Accepted.{Depth, Accepted, video-on}
+use Rattle.registers.proofs.Accepted.{Depth, Accepted}
+use Rattle.registers.proofs.Words.{depth-least, depth-most, raster-bits, raster-most, video-rasters}
 use Rattle.frame.specs.Lent.{Raster}
+use Rattle.frame.proofs.PixelPlaces.{pixel-part}
 use Rattle.frame.specs.Ink.{from, wordsInk, displayInk}
 
 -- 32/d pixels of d bits fill a word.
@@ -24,50 +26,32 @@ fills-word (inr (inl e)) = rw e
 fills-word (inr (inr (inl e))) = rw e
 fills-word (inr (inr (inr e))) = rw e
 
-pub depth-positive : {d : ℕ} → Depth d → 0 < d
-depth-positive (inl e) = omega arith
-depth-positive (inr (inl e)) = omega arith
-depth-positive (inr (inr (inl e))) = omega arith
-depth-positive (inr (inr (inr e))) = omega arith
-
 -- Pixel j of the words of raster r, m words to a raster.
 pub pixel-row : (ws : List ℕ) (d n m r j : ℕ) → n * d ≡ 32 → 0 < d → j < m * n → pixel (take m (drop (r * m) ws)) d j ≡ pixel ws d (r * (m * n) + j)
-unfolding pixel
 pixel-row ws d n m r j e pos h =
-    let b : j * d < m * 32 = omega (arith, mul-le-mul-right d h, ap (λ (k : ℕ). m * k) e) in
-    let p : (r * (m * n) + j) * d ≡ r * m * 32 + j * d = omega (arith, ap (λ (k : ℕ). r * m * k) e) in
-    let a : (r * m * 32 + j * d) / 32 ≡ r * m + j * d / 32 = omega arith in
-    let c : (r * m * 32 + j * d) % 32 ≡ j * d % 32 = omega arith in
-    rw (p, a, c, getD-take m (drop (r * m) ws) (j * d / 32) 0 (omega arith), getD-drop (r * m) ws (j * d / 32) 0)
-
-pub depth-most : {d : ℕ} → Depth d → d ≤ 8
-depth-most (inl e) = omega arith
-depth-most (inr (inl e)) = omega arith
-depth-most (inr (inr (inl e))) = omega arith
-depth-most (inr (inr (inr e))) = omega arith
+    pixel-part ws d (r * (m * n) + j) j (r * m) m (omega (arith, ap (λ (k : ℕ). r * m * k) e)) (omega (arith, mul-le-mul-right d h, ap (λ (k : ℕ). m * k) e))
 
 module _ (s : Setting) (r : Accepted s) where
   -- Words to a raster, and pixels to its words.
   pub whole-words : (s .de .0 - s .ds .0) * s .depth ≡ rasterWords s * 32
   unfolding rasterWords
-  whole-words = omega (arith, r .whole)
+  whole-words = sym (raster-bits s r)
 
   pub whole-pixels : rasterWords s * (32 / s .depth) ≡ s .de .0 - s .ds .0
   whole-pixels =
-      eq-of-mul-eq-mul-right (s .depth) (depth-positive (r .depth)) _ _
+      eq-of-mul-eq-mul-right (s .depth) (depth-least (r .depth)) _ _
       (mul-assoc (rasterWords s) (32 / s .depth) (s .depth) ∙ ap (λ (k : ℕ). rasterWords s * k) (fills-word (r .depth)) ∙ sym whole-words)
 
-  pub raster-bits : (s .de .0 - s .ds .0) * s .depth ≤ 2048 * 8
-  raster-bits = mul-le-mul {n₂ = 2048} {m₂ = 8} (omega (arith, r .de-be, r .be-n, r .n-most)) (depth-most (r .depth))
+  pub bits-most : (s .de .0 - s .ds .0) * s .depth ≤ 2048 * 8
+  bits-most = mul-le-mul {n₂ = 2048} {m₂ = 8} (omega (arith, r .de-be, r .be-n, r .n-most)) (depth-most (r .depth))
 
   pub words-most : rasterWords s ≤ 512
-  words-most = omega (arith, whole-words, raster-bits)
+  unfolding rasterWords
+  words-most = raster-most s r
 
   pub frame-words : s .vds .0 < s .vde .0 → videoWords s ≡ (s .vde .0 - s .vds .0) * rasterWords s
-  frame-words h =
-      let e : (s .de .0 - s .ds .0) * (s .vde .0 - s .vds .0) * s .depth ≡ (s .vde .0 - s .vds .0) * rasterWords s * 32
-            = omega (arith, ap (λ (k : ℕ). (s .vde .0 - s .vds .0) * k) whole-words) in
-      video-on s (lt-ltb (s .vds .0) (s .vde .0) h) ∙ rw e (omega arith)
+  unfolding rasterWords
+  frame-words h = video-rasters s r (lt-ltb (s .vds .0) (s .vde .0) h)
 
   -- The words of a displayed raster lie in the list.
   pub raster-room : (y : ℕ) → s .vds .0 ≤ y → y < s .vde .0 → firstWord s y + rasterWords s ≤ videoWords s
@@ -82,7 +66,7 @@ module _ (s : Setting) (r : Accepted s) where
   raster-same table video y at k p q =
       let j : k - (at + s .ds .0) ≡ k - at - s .ds .0 = omega arith in
       let h : k - at - s .ds .0 < rasterWords s * (32 / s .depth) = omega (arith, whole-pixels) in
-      rw (j, pixel-row video (s .depth) (32 / s .depth) (rasterWords s) (y - s .vds .0) (k - at - s .ds .0) (fills-word (r .depth)) (depth-positive (r .depth)) h, whole-pixels)
+      rw (j, pixel-row video (s .depth) (32 / s .depth) (rasterWords s) (y - s .vds .0) (k - at - s .ds .0) (fills-word (r .depth)) (depth-least (r .depth)) h, whole-pixels)
 
   -- The display's stretch is painted: what `shown` makes of the raster's words.
   pub display-law : (table video o p : List ℕ) (at y ds first last : ℕ) → at + s .n .0 ≤ length o → ds ≡ s .ds .0

@@ -4,12 +4,12 @@ use mathlib.Core.Bool.{Bool, true, false, _&&_, not}
 use mathlib.Core.Path.{_≡_, refl, sym, ap, _∙_}
 use mathlib.Core.List.{List}
 use mathlib.Core.Logic.{_⊎_, inl, inr}
-use native.Mathlib.Nat.{mod-lt, mod-eq-of-lt, one-mul, sub-zero, zero-add}
+use native.Mathlib.Nat.{mod-eq-of-lt, one-mul, sub-zero, zero-add}
 use native.Mathlib.Omega.{arith}
 use borrow.Author.Tests.{not-true, eqb-false}
 use lib.Dec.{ltb, leb, eqb}
 use lib.ListN.{length, getD, replicate, length-replicate}
-use lib.Pow.{pow-pos, pow-mono}
+use lib.Pow.{pow-mono}
 use Rattle.buffers.specs.Pick.{pick}
 use Rattle.buffers.specs.Painted.{painted}
 use Rattle.buffers.proofs.Paints.{paint-as, paints-of, paints-painted}
@@ -18,14 +18,12 @@ use Rattle.buffers.proofs.Tests.{and-split}
 use Rattle.registers.specs.Colours.{borderOf, cursorOf}
 use Rattle.registers.specs.declared.record.Registers.{Registers}
 use Rattle.registers.specs.declared.setting.Setting.{Setting}
-use Rattle.colours.specs.Colour.{mixed, colourOf}
-use Rattle.frame.specs.Pixel.{pixel, logical, cursorPair}
+use Rattle.colours.specs.Colour.{colourOf}
+use Rattle.frame.specs.Pixel.{position, logical, cursorPair}
 use Rattle.frame.specs.Cell.{inDisplay, inBorder, inCursor, plainCode, covered, code, cell}
 use Rattle.frame.specs.Ink.{from, plainInk, ink, frameInk, shade, pensOf}
+use Rattle.frame.proofs.PixelPlaces.{pixel-below}
 use Rattle.frame.specs.Frame.{cells, frameCell, rasterCell}
-
-pub colour-below : (g : Registers) (d p : ℕ) → colourOf g d p < 8192
-colour-below g d p = elim (true-or-false (eqb d 8)) [ inl e ↦ rw e (omega arith) | inr e ↦ rw e (omega arith) ]
 
 -- How many logical pixels there are, as the machine reckons it.
 pub count-is : (d : ℕ) → d ≤ 8 → (1 * 2 ^ d) % 2 ^ 64 ≡ 2 ^ d
@@ -68,8 +66,8 @@ by-tests false false false false t p q w c f g = refl
 
 module _ (g : Registers) (s : Setting) (table video cursor : List ℕ) (x y : ℕ) (right : Shades g (s .depth) table) where
   pixel-cell : getD table (logical s video x y) 0 ≡ 5 * 8192 + colourOf g (s .depth) (logical s video x y)
-  unfolding pixel shade
-  pixel-cell = right (logical s video x y) (mod-lt _ (pow-pos (s .depth)))
+  unfolding shade
+  pixel-cell = right (logical s video x y) (pixel-below video (s .depth) (position s x y))
 
   pair-below : cursorPair s cursor y (x - s .cx .0) < 4
   unfolding cursorPair

@@ -12,6 +12,7 @@ use Rattle.registers.proofs.Accepted.{Depth}
 use Rattle.frame.specs.Ink.{from, wordInk, wordsInk}
 use Rattle.buffers.proofs.Paints.{Paints, paint-more, paint-next, paint-as, paints-of}
 use mathlib.Core.Logic.{_⊎_, inl, inr}
+use Rattle.frame.proofs.PixelPlaces.{pixel-in}
 use Rattle.buffers.proofs.Split.{lt-or-le}
 use Rattle.buffers.specs.Painted.{painted}
 
@@ -37,6 +38,19 @@ whole-word w at d = rw (sub-self at, zero-mul d) (sym (div-one w))
 pub next-from : (w at k d : ℕ) → at ≤ k → w / 2 ^ ((k - at) * d) / 2 ^ d ≡ w / 2 ^ ((k + 1 - at) * d)
 next-from w at k d h = let e : k + 1 - at ≡ k - at + 1 = omega arith in rw e (next-pixel w (k - at) d)
 
+pub fill-positive : (n d : ℕ) → n * d ≡ 32 → 0 < d
+fill-positive n d e =
+    elim (lt-or-le 0 d) [
+      inl h ↦ h
+    | inr h ↦
+      let z : d ≡ 0 = omega arith in
+      let y : n * d ≡ 0 = rw z (mul-zero n) in
+      omega arith
+    ]
+
+pub fill-most : (n d : ℕ) → n * d ≡ 32 → n ≤ 32
+fill-most n d e = omega (arith, le-mul-of-pos-right n (fill-positive n d e))
+
 -- A chunk of a word.
 module _ (j chunks count d : ℕ) (h : j < chunks) where
   pub chunk-room : j * count + count ≤ chunks * count
@@ -44,13 +58,8 @@ module _ (j chunks count d : ℕ) (h : j < chunks) where
 
   pub chunk-bits : chunks * count * d ≡ 32 → j * (count * d) < 32
   chunk-bits e =
-      elim (lt-or-le 0 (count * d)) [
-        inl p ↦ omega (arith, mul-le-mul-right (count * d) h)
-      | inr p ↦
-        let z : count * d ≡ 0 = omega arith in
-        let n : chunks * (count * d) ≡ 0 = rw z (mul-zero chunks) in
-        omega (arith, mul-assoc chunks count d)
-      ]
+      let f : chunks * (count * d) ≡ 32 = sym (mul-assoc chunks count d) ∙ e in
+      omega (arith, mul-le-mul-right (count * d) h, fill-positive chunks (count * d) f)
 
 pub chunk-step : (count d : ℕ) → count ≤ 8 → d ≤ 8 → count * d ≤ 64
 chunk-step count d p q = mul-le-mul p q
@@ -71,22 +80,8 @@ module _ (table : List ℕ) (w d at j count k bits : ℕ) (start : k ≡ at + j 
 
 -- Pixel x of word q, where n pixels of d bits fill a word.
 pub pixel-field : (ws : List ℕ) (d n q x : ℕ) → n * d ≡ 32 → x < n → pixel ws d (q * n + x) ≡ getD ws q 0 / 2 ^ (x * d) % 2 ^ d
-unfolding pixel
 pixel-field ws d n q x e h =
-    let b : x * d < 32 = omega (arith, mul-le-mul-right d h, mul-pos-of e) in
-    let p : (q * n + x) * d ≡ q * 32 + x * d = omega (arith, ap (λ (k : ℕ). q * k) e) in
-    let a : (q * 32 + x * d) / 32 ≡ q = omega arith in
-    let m : (q * 32 + x * d) % 32 ≡ x * d = omega arith in
-    rw (p, a, m)
-  where
-    mul-pos-of : n * d ≡ 32 → 0 < d
-    mul-pos-of t = elim (lt-or-le 0 d) [
-        inl g ↦ g
-      | inr g ↦
-        let z : d ≡ 0 = omega arith in
-        let y : n * d ≡ 0 = rw z (mul-zero n) in
-        omega arith
-      ]
+    pixel-in ws d (q * n + x) q (x * d) (omega (arith, ap (λ (k : ℕ). q * k) e)) (omega (arith, mul-le-mul-right d h, fill-positive n d e))
 
 module _ (table ws : List ℕ) (d at q n k : ℕ) (start : k ≡ at + q * n) (fills : n * d ≡ 32) where
   word-same : (i : ℕ) → k ≤ i → i < k + n → from k (wordInk table (getD ws q 0) d) i ≡ from at (wordsInk table ws d) i
@@ -100,16 +95,6 @@ module _ (table ws : List ℕ) (d at q n k : ℕ) (start : k ≡ at + q * n) (fi
       → r ≡ painted p k (k + n) (from k (wordInk table (getD ws q 0) d)) → Paints 0 o r at (k + n) (from at (wordsInk table ws d))
   word-turn o p r room so-far e =
       paint-next (omega arith) (omega arith) so-far (paint-as (from at (wordsInk table ws d)) word-same (paints-of (rw (so-far .len) room) e))
-
-pub fill-most : (n d : ℕ) → n * d ≡ 32 → n ≤ 32
-fill-most n d e =
-    elim (lt-or-le 0 d) [
-      inl h ↦ omega (arith, le-mul-of-pos-right n h)
-    | inr h ↦
-      let z : d ≡ 0 = omega arith in
-      let y : n * d ≡ 0 = rw z (mul-zero n) in
-      omega arith
-    ]
 
 pub depth-one : {d : ℕ} → Depth d → (d ≡ 8 → ⊥) → (d ≡ 4 → ⊥) → (d ≡ 2 → ⊥) → d ≡ 1
 depth-one (inl e) a b c = e

@@ -1,5 +1,5 @@
 // Cells made ready, once for each call: a display cell for each logical pixel, and the cells of border and cursor.
-use crate::colour::colour;
+use colours::colour;
 use crate::rows::row;
 use crate::rows::rows;
 use registers::record::Registers;

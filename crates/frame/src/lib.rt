@@ -10,7 +10,6 @@ ghost use lib.ListN.{length};
 ghost use Rattle.registers.specs.Table.{told};
 ghost use Rattle.frame.specs.Frame.{frameTold, frameHeld, rasterTold, rasterHeld};
 
-mod colour;
 mod cursor;
 mod decode;
 mod display;

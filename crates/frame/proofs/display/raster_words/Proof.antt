@@ -1,6 +1,7 @@
 use native.Mathlib.Omega.{arith}
 use Rattle.frame.specs.Pixel.{rasterWords}
-use Rattle.frame.proofs.RasterWords.{depth-most, raster-bits}
+use Rattle.frame.proofs.RasterWords.{bits-most}
+use Rattle.registers.proofs.Words.{depth-most}
 use borrow.Author.Needs.{needs}
 use Rattle.frame.proofs.display.raster_words.Statement.{statement}
 use Rattle.frame.proofs.display.raster_words.Tie as tie
@@ -26,7 +27,7 @@ cast-result c = omega (arith, depth-most (c .before .before .before .pre .depth)
 
 -- src/display.rt:18:5
 mul-result : tie.Need-mul-result
-mul-result c = omega (arith, rw (← c .before .before .wide .ensures, ← c .before .wide2 .ensures) at (raster-bits _ (c .before .before .before .pre)))
+mul-result c = omega (arith, rw (← c .before .before .wide .ensures, ← c .before .wide2 .ensures) at (bits-most _ (c .before .before .before .pre)))
 
 -- src/display.rt:14:1
 returns : tie.Need-returns

@@ -1,4 +1,4 @@
-use Rattle.frame.proofs.RasterWords.{depth-most}
+use Rattle.registers.proofs.Words.{depth-most}
 use Rattle.frame.proofs.Ready.{frame-law}
 use borrow.Author.Needs.{needs}
 use Rattle.frame.proofs.inks.paint_frame.Statement.{statement}

@@ -1,6 +1,7 @@
 use native.Mathlib.Omega.{arith}
 use borrow.Author.Needs.{needs}
-use Rattle.frame.proofs.Ready.{count-is, count-most, colour-below, shade-is}
+use Rattle.frame.proofs.Ready.{count-is, count-most, shade-is}
+use Rattle.colours.proofs.Bounds.{colour-below}
 use Rattle.frame.specs.Ink.{shade}
 use lib.ListN.{replicate, length-replicate}
 use Prim.Native.Nat.{ℕ, _-_, _^_, _≤_}
@@ -10,7 +11,6 @@ use Rattle.frame.proofs.inks.shades.Statement.{statement}
 use Rattle.frame.proofs.inks.shades.Tie as tie
 use Rattle.frame.proofs.inks.shades.Reads as reads
 use Rattle.frame.proofs.inks.shades.Lts as lts
-use Rattle.frame.proofs.colour.colour.Reads as colour-reads
 
 abbrev Inv-loop : tie.InvT-loop
 Inv-loop g depth table₀ count p₀ table p = (p ≤ 2 ^ depth) × Paints 0 (replicate 256 0) table 0 p (shade g depth)
