@@ -4,3 +4,5 @@ pub mod Sets
 pub mod Words
 pub mod Tests
 pub mod Table
+pub mod Split
+pub mod Paints

@@ -1,2 +1,10 @@
 pub mod PixelPlaces
 pub mod CellCodes
+pub mod Words
+pub mod Regions
+pub mod RasterWords
+pub mod Stretches
+pub mod Pointer
+pub mod Rasters
+pub mod Ready
+pub mod Calls

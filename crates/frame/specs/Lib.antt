@@ -1,3 +1,5 @@
 pub mod Pixel
 pub mod Cell
 pub mod Frame
+pub mod Ink
+pub mod Lent

@@ -15,6 +15,13 @@ position s x y = (y - s .vds .0) * (s .de .0 - s .ds .0) + (x - s .ds .0)
 abbrev pub logical : Setting → List ℕ → ℕ → ℕ → ℕ
 logical s video x y = pixel video (s .depth) (position s x y)
 
+-- The words of a displayed raster: how many, and the first.
+unfoldable pub rasterWords : Setting → ℕ
+rasterWords s = (s .de .0 - s .ds .0) * s .depth / 32
+
+unfoldable pub firstWord : Setting → ℕ → ℕ
+firstWord s y = (y - s .vds .0) * rasterWords s
+
 -- Cursor bit pair i of raster y: words 2(y-VCS) and the next, in bits 2(i mod 16)+1 and 2(i mod 16) of word i div 16.
 unfoldable pub cursorPair : Setting → List ℕ → ℕ → ℕ → ℕ
 cursorPair s cursor y i = getD cursor (2 * (y - s .vcs .0) + i / 16) 0 / 2 ^ (2 * (i % 16)) % 4

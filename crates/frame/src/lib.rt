@@ -1,1 +1,45 @@
 // The picture: every cell of the frame, by one rule.
+use judged::judged_frame;
+use judged::judged_raster;
+use registers::check::Checked;
+use registers::record::Registers;
+use registers::refusal::Answer;
+use registers::units::Rasters;
+ghost use mathlib.Core.Path.{_≡_};
+ghost use lib.ListN.{length};
+ghost use Rattle.registers.specs.Table.{told};
+ghost use Rattle.frame.specs.Frame.{frameTold, frameHeld, rasterTold, rasterHeld};
+
+mod cursor;
+mod decode;
+mod display;
+mod fill;
+mod inks;
+mod judged;
+mod plain;
+mod rows;
+mod units;
+
+// All N·V cells of a frame, raster after raster; the lent cells beyond are untouched. Refusals 3 to 9, 11, 13.
+pub fn frame(g: Registers, video: &[u32], cursor: &[u32], out: &mut [u16]) -> Answer
+    ensures { λ r. ⌜ (told r ≡ frameTold g (now (video .entry)) (now (cursor .entry)) (length (now (out .entry))))
+        × (now (out .exit) ≡ frameHeld g (now (video .entry)) (now (cursor .entry)) (now (out .entry))) ⌝ }
+{
+    let checked = g.check();
+    match checked {
+        Checked::Refused(why) => Answer::Refused(why),
+        Checked::Accepted(s) => judged_frame(g, s, video, cursor, out),
+    }
+}
+
+// The N cells of raster y. Refusals 3 to 9, 11, 12, 13.
+pub fn raster(g: Registers, video: &[u32], cursor: &[u32], y: Rasters, out: &mut [u16]) -> Answer
+    ensures { λ r. ⌜ (told r ≡ rasterTold g (now (video .entry)) (now (cursor .entry)) (y .0) (length (now (out .entry))))
+        × (now (out .exit) ≡ rasterHeld g (now (video .entry)) (now (cursor .entry)) (y .0) (now (out .entry))) ⌝ }
+{
+    let checked = g.check();
+    match checked {
+        Checked::Refused(why) => Answer::Refused(why),
+        Checked::Accepted(s) => judged_raster(g, s, video, cursor, y, out),
+    }
+}

@@ -1,0 +1,59 @@
+-- The public calls: the rows after the setting's, and what the lent cells hold.
+use Prim.Native.Nat.{ℕ, _+_, _*_, _<_, _≤_}
+use mathlib.Core.Bool.{Bool, true, false, _||_, not}
+use mathlib.Core.Path.{_≡_, refl, sym, ap, _∙_}
+use mathlib.Core.List.{List}
+use native.Mathlib.Nat.{mul-le-mul}
+use native.Mathlib.Omega.{arith}
+use borrow.Author.Tests.{not-false, eqb-true}
+use lib.Dec.{eqb}
+use lib.ListN.{length}
+use Rattle.buffers.specs.Painted.{painted}
+use Rattle.registers.specs.Table.{Told, given, refused, judged, unlessRefused}
+use Rattle.registers.specs.Setting.{settingOf, videoWords, cursorWords}
+use Rattle.registers.specs.Check.{checkTold}
+use Rattle.registers.specs.declared.record.Registers.{Registers}
+use Rattle.registers.specs.declared.setting.Setting.{Setting}
+use Rattle.registers.proofs.Accepted.{Accepted}
+use Rattle.registers.proofs.Exactly.{accepted-setting}
+use Rattle.frame.specs.Frame.{wordsWrong, cells, frameCell, frameTable, frameTold, frameHeld, rasterCell, rasterTable, rasterTold, rasterHeld}
+use Rattle.frame.specs.Lent.{Lent}
+
+pub cells-most : (s : Setting) → Accepted s → cells s ≤ 2048 * 1024
+cells-most s a = mul-le-mul {n₂ = 2048} {m₂ = 1024} (a .n-most) (a .v-most)
+
+neither : (a b : Bool) → a || b ≡ false → (a ≡ false) × (b ≡ false)
+neither true b e = let never : true ≡ false = e in (e, cc)
+neither false b e = (refl, e)
+
+-- Row 11 is passed exactly by lists of the right lengths.
+pub words-right : (s : Setting) (video cursor : List ℕ) → wordsWrong s video cursor ≡ false → (length video ≡ videoWords s) × (length cursor ≡ cursorWords s)
+words-right s video cursor e =
+    let h = neither (not (eqb (length video) (videoWords s))) (not (eqb (length cursor) (cursorWords s))) e in
+    (eqb-true _ _ (not-false _ (h .0)), eqb-true _ _ (not-false _ (h .1)))
+
+pub lent-by : {s : Setting} {end : ℕ} {video cursor out : List ℕ} → Accepted s → end ≤ length out → wordsWrong s video cursor ≡ false → Lent s end video cursor out
+lent-by {s} {end} {video} {cursor} a room e =
+    let w = words-right s video cursor e in
+    record { accepted = a; room = room; video-words = w .0; cursor-words = w .1 }
+
+module _ (g : Registers) (video cursor o : List ℕ) where
+  pub frame-refused : (n d : ℕ) → checkTold g ≡ refused n d → (refused n d ≡ frameTold g video cursor (length o)) × (o ≡ frameHeld g video cursor o)
+  unfolding frameTold frameHeld
+  frame-refused n d e = (rw e, rw e)
+
+  pub frame-judged : (s : Setting) (t : Told (Unit {0})) (p : List ℕ) → checkTold g ≡ given s → t ≡ judged (frameTable s video cursor (length o)) tt
+      → p ≡ unlessRefused t o (painted o 0 (cells s) (frameCell g s video cursor)) → (t ≡ frameTold g video cursor (length o)) × (p ≡ frameHeld g video cursor o)
+  unfolding frameTold frameHeld
+  frame-judged s t p e f h =
+      (rw e f, rw e (h ∙ rw (f, ← accepted-setting g s e)))
+
+  pub raster-refused : (y n d : ℕ) → checkTold g ≡ refused n d → (refused n d ≡ rasterTold g video cursor y (length o)) × (o ≡ rasterHeld g video cursor y o)
+  unfolding rasterTold rasterHeld
+  raster-refused y n d e = (rw e, rw e)
+
+  pub raster-judged : (y : ℕ) (s : Setting) (t : Told (Unit {0})) (p : List ℕ) → checkTold g ≡ given s → t ≡ judged (rasterTable s video cursor y (length o)) tt
+      → p ≡ unlessRefused t o (painted o 0 (s .n .0) (rasterCell g s video cursor y)) → (t ≡ rasterTold g video cursor y (length o)) × (p ≡ rasterHeld g video cursor y o)
+  unfolding rasterTold rasterHeld
+  raster-judged y s t p e f h =
+      (rw e f, rw e (h ∙ rw (f, ← accepted-setting g s e)))

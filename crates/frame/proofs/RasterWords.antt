@@ -1,0 +1,96 @@
+-- The words of one displayed raster: a stretch of the caller's list, whose pixels are the frame's.
+use Prim.Native.Nat.{ℕ, _+_, _*_, _-_, _/_, _%_, _^_, _<_, _≤_}
+use mathlib.Core.Path.{_≡_, refl, sym, ap, _∙_}
+use mathlib.Core.List.{List}
+use mathlib.Core.Logic.{_⊎_, inl, inr}
+use native.Mathlib.Nat.{mul-assoc, mul-comm, mul-le-mul-right, eq-of-mul-eq-mul-right, add-sub-cancel-left, mul-le-mul}
+use native.Mathlib.Omega.{arith}
+use borrow.Author.Tests.{lt-ltb}
+use lib.ListN.{length, getD, take, drop, length-take, length-drop}
+use lib.Seq.{getD-take, getD-drop}
+use Rattle.buffers.specs.Painted.{painted}
+use Rattle.buffers.proofs.Paints.{Paints, paint-as, paints-of, paints-painted}
+use Rattle.registers.specs.Setting.{displayOn, videoWords}
+use Rattle.registers.specs.declared.setting.Setting.{Setting}
+use Rattle.frame.specs.Pixel.{pixel, logical, rasterWords, firstWord}
+use Rattle.registers.proofs.Accepted.{Depth, Accepted}
+use Rattle.registers.proofs.Words.{depth-least, depth-most, raster-bits, raster-most, video-rasters}
+use Rattle.frame.specs.Lent.{Raster}
+use Rattle.frame.proofs.PixelPlaces.{pixel-part}
+use Rattle.frame.specs.Ink.{from, wordsInk, displayInk}
+
+-- 32/d pixels of d bits fill a word.
+pub fills-word : {d : ℕ} → Depth d → 32 / d * d ≡ 32
+fills-word (inl e) = rw e
+fills-word (inr (inl e)) = rw e
+fills-word (inr (inr (inl e))) = rw e
+fills-word (inr (inr (inr e))) = rw e
+
+-- Pixel j of the words of raster r, m words to a raster.
+pub pixel-row : (ws : List ℕ) (d n m r j : ℕ) → n * d ≡ 32 → 0 < d → j < m * n → pixel (take m (drop (r * m) ws)) d j ≡ pixel ws d (r * (m * n) + j)
+pixel-row ws d n m r j e pos h =
+    pixel-part ws d (r * (m * n) + j) j (r * m) m (omega (arith, ap (λ (k : ℕ). r * m * k) e)) (omega (arith, mul-le-mul-right d h, ap (λ (k : ℕ). m * k) e))
+
+module _ (s : Setting) (r : Accepted s) where
+  -- Words to a raster, and pixels to its words.
+  pub whole-words : (s .de .0 - s .ds .0) * s .depth ≡ rasterWords s * 32
+  unfolding rasterWords
+  whole-words = sym (raster-bits s r)
+
+  pub whole-pixels : rasterWords s * (32 / s .depth) ≡ s .de .0 - s .ds .0
+  whole-pixels =
+      eq-of-mul-eq-mul-right (s .depth) (depth-least (r .depth)) _ _
+      (mul-assoc (rasterWords s) (32 / s .depth) (s .depth) ∙ ap (λ (k : ℕ). rasterWords s * k) (fills-word (r .depth)) ∙ sym whole-words)
+
+  pub bits-most : (s .de .0 - s .ds .0) * s .depth ≤ 2048 * 8
+  bits-most = mul-le-mul {n₂ = 2048} {m₂ = 8} (omega (arith, r .de-be, r .be-n, r .n-most)) (depth-most (r .depth))
+
+  pub words-most : rasterWords s ≤ 512
+  unfolding rasterWords
+  words-most = raster-most s r
+
+  pub frame-words : s .vds .0 < s .vde .0 → videoWords s ≡ (s .vde .0 - s .vds .0) * rasterWords s
+  unfolding rasterWords
+  frame-words h = video-rasters s r (lt-ltb (s .vds .0) (s .vde .0) h)
+
+  -- The words of a displayed raster lie in the list.
+  pub raster-room : (y : ℕ) → s .vds .0 ≤ y → y < s .vde .0 → firstWord s y + rasterWords s ≤ videoWords s
+  unfolding firstWord
+  raster-room y p q =
+      let h : y - s .vds .0 + 1 ≤ s .vde .0 - s .vds .0 = omega arith in
+      omega (arith, mul-le-mul-right (rasterWords s) h, frame-words (omega arith))
+
+  raster-same : (table video : List ℕ) (y at k : ℕ) → at + s .ds .0 ≤ k → k < at + s .de .0
+      → from (at + s .ds .0) (wordsInk table (take (rasterWords s) (drop (firstWord s y) video)) (s .depth)) k ≡ from at (displayInk s table video y) k
+  unfolding from wordsInk displayInk firstWord
+  raster-same table video y at k p q =
+      let j : k - (at + s .ds .0) ≡ k - at - s .ds .0 = omega arith in
+      let h : k - at - s .ds .0 < rasterWords s * (32 / s .depth) = omega (arith, whole-pixels) in
+      rw (j, pixel-row video (s .depth) (32 / s .depth) (rasterWords s) (y - s .vds .0) (k - at - s .ds .0) (fills-word (r .depth)) (depth-least (r .depth)) h, whole-pixels)
+
+  -- The display's stretch is painted: what `shown` makes of the raster's words.
+  pub display-law : (table video o p : List ℕ) (at y ds first last : ℕ) → at + s .n .0 ≤ length o → ds ≡ s .ds .0
+      → first ≡ firstWord s y → last ≡ first + rasterWords s → firstWord s y + rasterWords s ≤ length video
+      → p ≡ painted o (at + ds) (at + ds + length (take (last - first) (drop first video)) * (32 / s .depth)) (from (at + ds) (wordsInk table (take (last - first) (drop first video)) (s .depth)))
+      → p ≡ painted o (at + s .ds .0) (at + s .de .0) (from at (displayInk s table video y))
+  display-law table video o p at y ds first last room e-ds e-first e-last fits e =
+      let n : last - first ≡ rasterWords s = omega arith in
+      let len : length (take (rasterWords s) (drop (firstWord s y) video)) ≡ rasterWords s = simp (length-take, length-drop) (omega arith) in
+      let end : at + s .ds .0 + (s .de .0 - s .ds .0) ≡ at + s .de .0 = omega (arith, r .ds-de) in
+      let q = rw (n, e-first, e-ds, len, whole-pixels, end) at e in
+      paints-painted {d = 0} (omega (arith, r .de-be, r .be-n)) (paint-as (from at (displayInk s table video y)) (raster-same table video y at) (paints-of {d = 0} (omega (arith, r .de-be, r .be-n)) q))
+
+  pub shown-room : (video o : List ℕ) (at y ds first last : ℕ) → at + s .n .0 ≤ length o → ds ≡ s .ds .0
+      → first ≡ firstWord s y → last ≡ first + rasterWords s → firstWord s y + rasterWords s ≤ length video
+      → at + ds + length (take (last - first) (drop first video)) * (32 / s .depth) ≤ length o
+  shown-room video o at y ds first last room e-ds e-first e-last fits =
+      let n : last - first ≡ rasterWords s = omega arith in
+      let len : length (take (rasterWords s) (drop (firstWord s y) video)) ≡ rasterWords s = simp (length-take, length-drop) (omega arith) in
+      rw (n, e-first, e-ds, len, whole-pixels) (omega (arith, r .ds-de, r .de-be, r .be-n))
+
+pub words-lie : {s : Setting} {at : ℕ} {video out : List ℕ} (y : ℕ) → Raster s at video out → s .vds .0 ≤ y → y < s .vde .0
+    → firstWord s y + rasterWords s ≤ length video
+words-lie {s} y r p q = rw (r .words) (raster-room s (r .accepted) y p q)
+
+pub product-fits : (a b : ℕ) → a < 65536 → b ≤ 512 → a * b ≤ 65536 * 512
+product-fits a b p q = mul-le-mul {n₂ = 65536} {m₂ = 512} (omega arith) q

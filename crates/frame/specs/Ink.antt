@@ -1,0 +1,72 @@
+-- The cell rule over cells made ready, as the painters hold them. `pens` are the cells of the colours at 40H to 4CH: the
+-- border's, then the cursor's three. `table` has the display cell of each logical pixel.
+use Prim.Native.Nat.{ℕ, _+_, _*_, _-_, _/_, _%_, _^_}
+use mathlib.Core.List.{List, [], _∷_}
+use lib.ListN.{getD}
+use lib.Dec.{ltb, eqb}
+use Rattle.buffers.specs.Pick.{pick}
+use Rattle.registers.specs.Colours.{borderOf, cursorOf}
+use Rattle.registers.specs.declared.record.Registers.{Registers}
+use Rattle.registers.specs.declared.setting.Setting.{Setting}
+use Rattle.colours.specs.Colour.{colourOf}
+use Rattle.frame.specs.Pixel.{pixel, logical, cursorPair}
+use Rattle.frame.specs.Cell.{plainCode, covered}
+
+-- A rule over the places of a stretch, moved to where that stretch starts.
+unfoldable pub from : ℕ → (ℕ → ℕ) → ℕ → ℕ
+from at rule k = rule (k - at)
+
+-- The cell of pixel i of one word, and of a list of words.
+unfoldable pub wordInk : List ℕ → ℕ → ℕ → ℕ → ℕ
+wordInk table w d i = getD table (w / 2 ^ (i * d) % 2 ^ d) 0
+
+unfoldable pub wordsInk : List ℕ → List ℕ → ℕ → ℕ → ℕ
+wordsInk table ws d i = getD table (pixel ws d i) 0
+
+-- Position x of raster y where it is displayed.
+unfoldable pub displayInk : Setting → List ℕ → List ℕ → ℕ → ℕ → ℕ
+displayInk s table video y x = getD table (logical s video x y) 0
+
+-- A cell of raster y outside border and horizontal sync: code 2 in vertical sync, else 0.
+abbrev pub blankOf : Setting → ℕ → ℕ
+blankOf s y = pick (ltb y (s .vs .0)) 2 0 * 8192
+
+-- Position x of raster y with no cursor.
+unfoldable pub plainInk : Setting → List ℕ → List ℕ → List ℕ → ℕ → ℕ → ℕ
+plainInk s pens table video y x =
+    pick (eqb (plainCode s x y) 5) (getD table (logical s video x y) 0)
+    (pick (eqb (plainCode s x y) 4) (getD pens 0 0) (plainCode s x y * 8192))
+
+unfoldable pub ink : Setting → List ℕ → List ℕ → List ℕ → List ℕ → ℕ → ℕ → ℕ
+ink s pens table video cursor y x =
+    pick (covered s cursor x y) (getD pens (cursorPair s cursor y (x - s .cx .0)) 0) (plainInk s pens table video y x)
+
+-- Place k of a frame.
+unfoldable pub frameInk : Setting → List ℕ → List ℕ → List ℕ → List ℕ → ℕ → ℕ
+frameInk s pens table video cursor k = ink s pens table video cursor (k / s .n .0) (k % s .n .0)
+
+-- The cursor over cells that stand in a raster at place `at`.
+unfoldable pub coverInk : Setting → List ℕ → List ℕ → ℕ → ℕ → List ℕ → ℕ → ℕ
+coverInk s pens cursor y at old k =
+    pick (covered s cursor (k - at) y) (getD pens (cursorPair s cursor y (k - at - s .cx .0)) 0) (getD old k 0)
+
+-- Bit pair i of the words from the given one on.
+unfoldable pub pairIn : List ℕ → ℕ → ℕ → ℕ
+pairIn ws first i = getD ws (first + i / 16) 0 / 2 ^ (2 * (i % 16)) % 4
+
+-- Pairs of a cursor raster over cells that stand from place `start` on.
+unfoldable pub pairInk : List ℕ → List ℕ → ℕ → ℕ → List ℕ → ℕ → ℕ
+pairInk pens cursor first start old k =
+    pick (eqb (pairIn cursor first (k - start)) 0) (getD old k 0) (getD pens (pairIn cursor first (k - start)) 0)
+
+-- The display cell of a logical pixel.
+unfoldable pub shade : Registers → ℕ → ℕ → ℕ
+shade g d p = 5 * 8192 + colourOf g d p
+
+unfoldable pub pensOf : Registers → List ℕ
+pensOf g =
+    (4 * 8192 + borderOf g)
+    ∷ (6 * 8192 + cursorOf g 1)
+    ∷ (6 * 8192 + cursorOf g 2)
+    ∷ (6 * 8192 + cursorOf g 3)
+    ∷ []

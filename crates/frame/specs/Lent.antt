@@ -1,0 +1,26 @@
+-- What the painters ask of what they are lent: an accepted setting, room, and the words that the frame needs.
+use Prim.Native.Nat.{ℕ, _+_, _≤_}
+use mathlib.Core.List.{List}
+use mathlib.Core.Path.{_≡_}
+use lib.ListN.{length}
+use Rattle.registers.proofs.Accepted.{Accepted}
+use Rattle.registers.specs.Setting.{videoWords, cursorWords}
+use Rattle.registers.specs.declared.setting.Setting.{Setting}
+
+-- Room up to the place `end`.
+pub record Lent (s : Setting) (end : ℕ) (video cursor out : List ℕ) : Type 0 where
+  pub accepted : Accepted s
+  pub room : end ≤ length out
+  pub video-words : length video ≡ videoWords s
+  pub cursor-words : length cursor ≡ cursorWords s
+
+-- The same for a raster from place `at` on with no cursor, and for the cursor alone.
+pub record Raster (s : Setting) (at : ℕ) (video out : List ℕ) : Type 0 where
+  pub accepted : Accepted s
+  pub room : at + s .n .0 ≤ length out
+  pub words : length video ≡ videoWords s
+
+pub record Pointed (s : Setting) (at : ℕ) (cursor out : List ℕ) : Type 0 where
+  pub accepted : Accepted s
+  pub room : at + s .n .0 ≤ length out
+  pub words : length cursor ≡ cursorWords s

@@ -1,0 +1,56 @@
+// Cells made ready, once for each call: a display cell for each logical pixel, and the cells of border and cursor.
+use colours::colour;
+use crate::rows::row;
+use crate::rows::rows;
+use registers::record::Registers;
+use registers::setting::Setting;
+use registers::units::Rasters;
+ghost use mathlib.Core.Path.{_≡_};
+ghost use Prim.Native.Nat.{_*_, _^_, _≤_};
+ghost use lib.ListN.{replicate};
+ghost use Rattle.buffers.specs.Painted.{painted};
+ghost use Rattle.frame.specs.Frame.{cells, frameCell, rasterCell};
+ghost use Rattle.frame.specs.Lent.{Lent};
+ghost use Rattle.frame.specs.Ink.{shade, pensOf};
+
+fn shades(g: Registers, depth: u8) -> [u16; 256]
+    requires { ⌜ depth ≤ 8 ⌝ }
+    ensures { λ r. ⌜ r ≡ painted (replicate 256 0) 0 (2 ^ depth) (shade g depth) ⌝ }
+{
+    let mut table = [0u16; 256];
+    let count = 1usize << depth;
+    let mut p = 0;
+    while p < count {
+        table[p] = 5 * 8192 + colour(g, depth, p as u8);
+        p += 1;
+    }
+    table
+}
+
+fn pens(g: Registers) -> [u16; 4]
+    ensures { λ r. ⌜ r ≡ pensOf g ⌝ }
+{
+    let border = 4 * 8192 + g.border();
+    let one = 6 * 8192 + g.cursor_colour(1);
+    let two = 6 * 8192 + g.cursor_colour(2);
+    let three = 6 * 8192 + g.cursor_colour(3);
+    [border, one, two, three]
+}
+
+pub fn paint_frame(out: &mut [u16], g: Registers, s: Setting, video: &[u32], cursor: &[u32])
+    requires { ⌜ Lent s (cells s) (now video) (now cursor) (now out) ⌝ }
+    ensures { λ _. ⌜ now (out .exit) ≡ painted (now (out .entry)) 0 (cells s) (frameCell g s (now (video .entry)) (now (cursor .entry))) ⌝ }
+{
+    let table = shades(g, s.depth);
+    let inks = pens(g);
+    rows(out, s, &inks, &table, video, cursor);
+}
+
+pub fn paint_raster(out: &mut [u16], g: Registers, s: Setting, y: Rasters, video: &[u32], cursor: &[u32])
+    requires { ⌜ Lent s (s .n .0) (now video) (now cursor) (now out) ⌝ }
+    ensures { λ _. ⌜ now (out .exit) ≡ painted (now (out .entry)) 0 (s .n .0) (rasterCell g s (now (video .entry)) (now (cursor .entry)) (y .0)) ⌝ }
+{
+    let table = shades(g, s.depth);
+    let inks = pens(g);
+    row(out, 0, s, y, &inks, &table, video, cursor);
+}

@@ -1,0 +1,62 @@
+// The rows of the table after the setting's: 11, 12, 13 as far as they apply, and then the painting.
+use crate::inks::paint_frame;
+use crate::inks::paint_raster;
+use crate::units::wide;
+use registers::record::Registers;
+use registers::refusal::Answer;
+use registers::refusal::Refusal;
+use registers::setting::Setting;
+use registers::units::Rasters;
+ghost use mathlib.Core.Path.{_≡_};
+ghost use lib.ListN.{length};
+ghost use Rattle.buffers.specs.Painted.{painted};
+ghost use Rattle.registers.proofs.Accepted.{Accepted};
+ghost use Rattle.registers.specs.Table.{told, judged, unlessRefused};
+ghost use Rattle.frame.specs.Frame.{wordsWrong, cells, frameCell, frameTable, rasterCell, rasterTable};
+
+fn words_wrong(s: Setting, video: &[u32], cursor: &[u32]) -> bool
+    ensures { λ r. ⌜ r ≡ wordsWrong s (now (video .entry)) (now (cursor .entry)) ⌝ }
+{
+    (video.len() as u64 != s.video_words()) | (cursor.len() as u64 != s.cursor_words())
+}
+
+// How many cells a frame has.
+fn frame_cells(s: Setting) -> usize
+    requires { ⌜ Accepted s ⌝ }
+    ensures { λ r. ⌜ r ≡ cells s ⌝ }
+{
+    wide(s.n) * (s.v.0 as usize)
+}
+
+pub fn judged_frame(g: Registers, s: Setting, video: &[u32], cursor: &[u32], out: &mut [u16]) -> Answer
+    requires { ⌜ Accepted s ⌝ }
+    ensures { λ r. ⌜ (told r ≡ judged (frameTable s (now (video .entry)) (now (cursor .entry)) (length (now (out .entry)))) tt)
+        × (now (out .exit) ≡ unlessRefused (told r) (now (out .entry)) (painted (now (out .entry)) 0 (cells s) (frameCell g s (now (video .entry)) (now (cursor .entry))))) ⌝ }
+{
+    if words_wrong(s, video, cursor) {
+        return Answer::Refused(Refusal::WordCount);
+    }
+    if out.len() < frame_cells(s) {
+        return Answer::Refused(Refusal::Short);
+    }
+    paint_frame(out, g, s, video, cursor);
+    Answer::Done
+}
+
+pub fn judged_raster(g: Registers, s: Setting, video: &[u32], cursor: &[u32], y: Rasters, out: &mut [u16]) -> Answer
+    requires { ⌜ Accepted s ⌝ }
+    ensures { λ r. ⌜ (told r ≡ judged (rasterTable s (now (video .entry)) (now (cursor .entry)) (y .0) (length (now (out .entry)))) tt)
+        × (now (out .exit) ≡ unlessRefused (told r) (now (out .entry)) (painted (now (out .entry)) 0 (s .n .0) (rasterCell g s (now (video .entry)) (now (cursor .entry)) (y .0)))) ⌝ }
+{
+    if words_wrong(s, video, cursor) {
+        return Answer::Refused(Refusal::WordCount);
+    }
+    if y.0 >= s.v.0 {
+        return Answer::Refused(Refusal::Raster);
+    }
+    if out.len() < wide(s.n) {
+        return Answer::Refused(Refusal::Short);
+    }
+    paint_raster(out, g, s, y, video, cursor);
+    Answer::Done
+}

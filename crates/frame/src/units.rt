@@ -1,0 +1,45 @@
+// A unit's number as an index, and where a raster lies.
+use registers::setting::Setting;
+use registers::units::Pixels;
+use registers::units::Rasters;
+ghost use mathlib.Core.Path.{_≡_};
+ghost use Prim.Native.Nat.{_-_, min};
+ghost use Rattle.frame.specs.Cell.{within};
+
+pub fn wide(p: Pixels) -> usize
+    ensures { λ r. ⌜ r ≡ p .0 ⌝ }
+{
+    p.0 as usize
+}
+
+// a - b, or 0 where b is larger.
+pub fn past(a: usize, b: usize) -> usize
+    ensures { λ r. ⌜ r ≡ a - b ⌝ }
+{
+    if a < b {
+        return 0;
+    }
+    a - b
+}
+
+pub fn least(a: usize, b: usize) -> usize
+    ensures { λ r. ⌜ r ≡ min a b ⌝ }
+{
+    if a < b {
+        return a;
+    }
+    b
+}
+
+// Raster y is one of the display's.
+pub fn displayed(s: Setting, y: Rasters) -> bool
+    ensures { λ r. ⌜ r ≡ within (s .vds .0) (s .vde .0) (y .0) ⌝ }
+{
+    (s.vds.0 <= y.0) & (y.0 < s.vde.0)
+}
+
+pub fn bordered(s: Setting, y: Rasters) -> bool
+    ensures { λ r. ⌜ r ≡ within (s .vbs .0) (s .vbe .0) (y .0) ⌝ }
+{
+    (s.vbs.0 <= y.0) & (y.0 < s.vbe.0)
+}
