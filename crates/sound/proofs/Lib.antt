@@ -1,3 +1,5 @@
 pub mod Amplitudes
 pub mod Signed
 pub mod Turns
+pub mod Eight
+pub mod Calls
