@@ -3,6 +3,7 @@ mod amplitude;
 mod sixths;
 mod values;
 
+use amplitude::amplitudes;
 use amplitude::value;
 use registers::record::Registers;
 use registers::refusal::Answer;
@@ -46,9 +47,10 @@ pub fn pair(byte: u8, stereo: u8) -> Pairing
     if bits == 0 {
         return Pairing::Refused(Refusal::Sound(0));
     }
+    let table = amplitudes();
     Pairing::Given(Sides {
-        left: value(byte, left_of(bits)),
-        right: value(byte, right_of(bits)),
+        left: value(byte, left_of(bits), &table),
+        right: value(byte, right_of(bits), &table),
     })
 }
 
@@ -82,7 +84,8 @@ pub fn play(registers: Registers, words: &[u32], counter: u32, out: &mut [i16]) 
             }
             let left = lefts(registers);
             let right = rights(registers);
-            let after = put_words(out, words, counter, &left, &right);
+            let table = amplitudes();
+            let after = put_words(out, words, counter, &left, &right, &table);
             Played {
                 counter: after,
                 answer: Answer::Done,
