@@ -3,3 +3,7 @@ pub mod Signed
 pub mod Turns
 pub mod Eight
 pub mod Calls
+pub mod Unique
+pub mod Cases
+pub mod Accepted
+pub mod Places
