@@ -1,5 +1,5 @@
 -- Stores one after another: a loop that stores a list's elements in order has, at each turn, the whole left to store.
-use mathlib.Core.Path.{_≡_, refl, sym, _∙_, ap}
+use mathlib.Core.Path.{_≡_, sym, _∙_, ap}
 use mathlib.Core.List.{List, [], _∷_, _++_}
 use Prim.Native.Nat.{ℕ, suc, _+_, _-_, _≤_, _<_}
 use native.Mathlib.Numerals.{add-one}
@@ -39,6 +39,6 @@ module _ {A : Type 0} where
       let m : 0 + length vs + (i - length vs) ≡ i = omega arith in
       rw (sets-eq vs l 0 (omega arith))
       (ap (λ (k : ℕ). getD (vs ++ drop (0 + length vs) l) k d) n
-        ∙ getD-append-add vs (drop (0 + length vs) l) (i - length vs) d
-        ∙ getD-drop (0 + length vs) l (i - length vs) d
-        ∙ ap (λ (k : ℕ). getD l k d) m)
+      ∙ getD-append-add vs (drop (0 + length vs) l) (i - length vs) d
+      ∙ getD-drop (0 + length vs) l (i - length vs) d
+      ∙ ap (λ (k : ℕ). getD l k d) m)

@@ -6,3 +6,4 @@ pub mod Written
 pub mod Again
 pub mod RoundTrip
 pub mod Unique
+pub mod Cases

@@ -1,13 +1,11 @@
 -- For each public call, any two answers that its contract permits are the same, and so are any two states of lent memory.
 use mathlib.Core.Path.{_≡_, sym, _∙_, ap}
-use Prim.Native.Nat.{ℕ}
 use denote.Ref.{now}
 use Rattle.buffers.proofs.Coincide.{OneAnswer, OneState}
 use Rattle.registers.proofs.Tables.{never}
 use Rattle.registers.proofs.Told.{same-refusal, same-answer}
 use Rattle.plates.specs.Read.{toldRead}
 use Rattle.plates.specs.Write.{toldWritten}
-use Rattle.plates.specs.declared.Sections.{Sections}
 use Rattle.plates.specs.declared.Reading.{Reading}
 use Rattle.plates.specs.declared.Reading.the-variants as reading
 use Rattle.plates.specs.declared.Writing.{Writing}

@@ -1,8 +1,8 @@
 -- What a record that sound accepts gives: every stereo value is 1 to 7.
-use mathlib.Core.Path.{_≡_, refl, sym, _∙_, ap}
+use mathlib.Core.Path.{_≡_, refl, sym}
 use mathlib.Core.Bool.{Bool, true, false, _&&_, _||_}
 use mathlib.Core.List.{[], _∷_}
-use Prim.Native.Nat.{ℕ, _+_, _*_, _%_, _≤_, _<_}
+use Prim.Native.Nat.{ℕ, _*_, _%_, _≤_}
 use native.Mathlib.Omega.{arith}
 use lib.Dec.{ltb, eqb}
 use lib.ListN.{getD}
@@ -42,8 +42,8 @@ pub played : (g : Registers) (words places : ℕ) → playTold g words places �
 unfolding playTold
 played g words places e = go (soundTold g) e
   where
-  go :
-      (t : Told (Unit {0})) → andThen {B = Unit {0}} t (λ u. judged (row 13 (ltb places (8 * words)) 0 ∷ []) tt) ≡ given (tt {0})
-      → (t ≡ given tt) × (8 * words ≤ places)
-  go (given u) e = (refl, ltb-false places (8 * words) (given-passes tt (row 13 (ltb places (8 * words)) 0 ∷ []) tt e .0 .0))
-  go (refused n d) e = never (sym e)
+    go :
+        (t : Told (Unit {0})) → andThen {B = Unit {0}} t (λ u. judged (row 13 (ltb places (8 * words)) 0 ∷ []) tt) ≡ given (tt {0})
+        → (t ≡ given tt) × (8 * words ≤ places)
+    go (given u) e = (refl, ltb-false places (8 * words) (given-passes tt (row 13 (ltb places (8 * words)) 0 ∷ []) tt e .0 .0))
+    go (refused n d) e = never (sym e)

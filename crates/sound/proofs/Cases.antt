@@ -3,7 +3,7 @@ use mathlib.Core.Path.{_≡_, refl}
 use Prim.Native.Nat.{ℕ}
 use lib.IntN.{ℤ, pos, negsuc, zero-*ℤ}
 use Rattle.sound.specs.Amplitude.{amplitudeOf, signedOf, valueOf}
-use Rattle.sound.specs.Sixths.{leftOf, rightOf}
+use Rattle.sound.specs.Sixths.{leftOf}
 use Rattle.sound.specs.Values.{channelOf, counterAfter}
 use Rattle.sound.specs.Pair.{sidesOf}
 

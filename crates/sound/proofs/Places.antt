@@ -1,10 +1,10 @@
 -- What stands at every place of the lent memory after the sound call, from its promises.
 use mathlib.Core.Path.{_≡_, refl, sym, _∙_, ap, subst}
-use mathlib.Core.Bool.{Bool, true, false, _&&_, _||_}
+use mathlib.Core.Bool.{Bool, true, false}
 use mathlib.Core.List.{List, [], _∷_}
 use Prim.Native.Nat.{ℕ, zero, suc, _+_, _*_, _-_, _/_, _%_, _^_, _≤_, _<_}
 use native.Mathlib.Omega.{arith}
-use lib.Dec.{ltb, eqb}
+use lib.Dec.{eqb}
 use lib.IntN.{ℤ, pos, natAbs}
 use lib.ListN.{length, getD}
 use lib.Seq.{sets, length-sets}
@@ -19,9 +19,10 @@ use Rattle.buffers.proofs.Sets.{sets-at, sets-beyond}
 use Rattle.registers.specs.Table.{Told, given, told, unlessRefused}
 use Rattle.registers.specs.declared.record.Registers.{Registers}
 use Rattle.sound.specs.Amplitude.{valueOf}
-use Rattle.sound.specs.Sixths.{leftAt, rightAt}
+use Rattle.sound.specs.Sixths.{leftOf, rightOf, leftAt, rightAt}
 use Rattle.sound.specs.Values.{channelOf, counterAfter, valuesOf}
 use Rattle.sound.specs.Play.{playTold, playedOf}
+use Rattle.sound.specs.Pair.{sidesOf}
 use Rattle.sound.proofs.Signed.{value-range}
 use Rattle.sound.proofs.Accepted.{stereo-positive, played}
 use Rattle.sound.proofs.play.Kinds as play-kinds
@@ -104,15 +105,15 @@ module _ (g : Registers) (words : List ℕ) (counter : ℕ) (out : List ℤ) (to
   bounded : (i : ℕ) → i < 8 * length words → natAbs (getD (sets out 0 values) i (pos 0)) ≤ 23712
   bounded i h = go (eqb (i % 2) 0) refl
     where
-    go : (t : Bool) → eqb (i % 2) 0 ≡ t → natAbs (getD (sets out 0 values) i (pos 0)) ≤ 23712
-    go true e =
-        let even = eqb-true (i % 2) 0 e in
-        let n : i ≡ 2 * (i / 2) = omega arith in
-        rw n (rw (on-left (i / 2) (omega arith)) (value-range (byteOf words (i / 2)) _ (omega arith) (in-sixths _ .0)))
-    go false e =
-        let odd = eqb-false (i % 2) 0 e in
-        let n : i ≡ 2 * (i / 2) + 1 = omega (arith, odd) in
-        rw n (rw (on-right (i / 2) (omega arith)) (value-range (byteOf words (i / 2)) _ (omega arith) (in-sixths _ .1)))
+      go : (t : Bool) → eqb (i % 2) 0 ≡ t → natAbs (getD (sets out 0 values) i (pos 0)) ≤ 23712
+      go true e =
+          let even = eqb-true (i % 2) 0 e in
+          let n : i ≡ 2 * (i / 2) = omega arith in
+          rw n (rw (on-left (i / 2) (omega arith)) (value-range (byteOf words (i / 2)) _ (omega arith) (in-sixths _ .0)))
+      go false e =
+          let odd = eqb-false (i % 2) 0 e in
+          let n : i ≡ 2 * (i / 2) + 1 = omega (arith, odd) in
+          rw n (rw (on-right (i / 2) (omega arith)) (value-range (byteOf words (i / 2)) _ (omega arith) (in-sixths _ .1)))
 
   places : EveryPlace g words counter out (sets out 0 values)
   places =
@@ -124,20 +125,27 @@ module _ (g : Registers) (words : List ℕ) (counter : ℕ) (out : List ℤ) (to
         long = length-sets out 0 values;
       }
 
+-- One byte's pair, for every byte and stereo value: right is the rest of six sixths, and both are within the bound.
+pub pair-within :
+    (byte stereo : ℕ) → byte < 256 → 1 ≤ stereo → stereo ≤ 7
+    → (leftOf stereo + rightOf stereo ≡ 6) × (natAbs (sidesOf byte stereo .left) ≤ 23712) × (natAbs (sidesOf byte stereo .right) ≤ 23712)
+pair-within byte stereo b lo hi = (omega arith, value-range byte (leftOf stereo) b (omega arith), value-range byte (rightOf stereo) b (omega arith))
+
 -- Of the sound call's own promises: the counter afterwards, and every place.
 pub every-place :
     (κs : Lfts 2) (a : Dens κs play-kinds.ps) (x : resT play-kinds.r κs .Denot) (s : AtExit (endedOf 2 play-kinds.ps play-kinds.r) κs)
     → play-reads.Post κs a x s → told (x .answer) ≡ given tt
     → (x .counter ≡ (a .1 .1 .0 + 4 * length (now (a .1 .0))) % 2 ^ 32)
-      × EveryPlace (a .0) (now (a .1 .0)) (a .1 .1 .0) (now (a .1 .1 .1 .0)) (now (s .1 .1 .1 .0))
+    × EveryPlace (a .0) (now (a .1 .0)) (a .1 .1 .0) (now (a .1 .1 .1 .0)) (now (s .1 .1 .1 .0))
 unfolding playedOf
 every-place κs a x s p e =
     let g = a .0 in
     let words = now (a .1 .0) in
     let counter = a .1 .1 .0 in
     let out = now (a .1 .1 .1 .0) in
-    let t : playTold g (length words) (length out) ≡ given tt = sym (p .0) ∙ e in
-    (p .1 ∙ ap (λ (u : Told (Unit {0})). unlessRefused u counter (counterAfter counter (4 * length words))) t,
+    let t : playTold g (length words) (length out) ≡ given tt = sym (p .0) ∙ e in (
+      p .1 ∙ ap (λ (u : Told (Unit {0})). unlessRefused u counter (counterAfter counter (4 * length words))) t,
       subst (EveryPlace g words counter out)
-      (sym (p .2 ∙ ap (λ (u : Told (Unit {0})). unlessRefused u out (sets out 0 (playedOf g counter words))) t))
-      (places g words counter out t))
+          (sym (p .2 ∙ ap (λ (u : Told (Unit {0})). unlessRefused u out (sets out 0 (playedOf g counter words))) t))
+          (places g words counter out t),
+    )

@@ -6,7 +6,6 @@ use Rattle.registers.proofs.Tables.{never}
 use Rattle.registers.proofs.Told.{same-refusal, same-answer}
 use Rattle.sound.specs.Pair.{toldPair}
 use Rattle.sound.specs.declared.Played.{Played}
-use Rattle.sound.specs.declared.Sides.{Sides}
 use Rattle.sound.specs.declared.Pairing.{Pairing}
 use Rattle.sound.specs.declared.Pairing.the-variants as pairing
 use Rattle.sound.proofs.pair.Kinds as pair-kinds

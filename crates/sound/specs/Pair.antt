@@ -1,8 +1,8 @@
 -- One byte's pair for a stereo value of three bits: 10 where it is 0.
 use Prim.Native.Nat.{ℕ, _%_}
-use mathlib.Core.List.{List, [], _∷_}
+use mathlib.Core.List.{[], _∷_}
 use lib.Dec.{eqb}
-use Rattle.registers.specs.Table.{Told, Row, row, judged, given, refusal}
+use Rattle.registers.specs.Table.{Told, row, judged, given, refusal}
 use Rattle.sound.specs.Amplitude.{valueOf}
 use Rattle.sound.specs.Sixths.{leftOf, rightOf}
 use Rattle.sound.specs.declared.Sides.{Sides}

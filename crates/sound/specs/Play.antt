@@ -4,7 +4,7 @@ use mathlib.Core.List.{List, [], _∷_}
 use lib.Dec.{ltb}
 use lib.IntN.{ℤ}
 use Rattle.buffers.specs.Words.{bytesOf}
-use Rattle.registers.specs.Table.{Told, Row, row, judged, andThen}
+use Rattle.registers.specs.Table.{Told, row, judged, andThen}
 use Rattle.registers.specs.Sound.{soundTold}
 use Rattle.registers.specs.declared.record.Registers.{Registers}
 use Rattle.sound.specs.Sixths.{leftAt, rightAt}

@@ -56,19 +56,17 @@ pub fn pair(byte: u8, stereo: u8) -> Pairing
 
 // The words' values in lent memory, from its first place on: 8 for each word. 3, 10, then 13.
 pub fn play(registers: Registers, words: &[u32], counter: u32, out: &mut [i16]) -> Played
-    ensures {
-        λ r. ⌜
-            (told (r .answer) ≡ playTold registers (length (now (words .entry))) (length (now (out .entry))))
-            × (r .counter
-                ≡ unlessRefused (playTold registers (length (now (words .entry))) (length (now (out .entry))))
-                counter
-                (counterAfter counter (4 * length (now (words .entry)))))
-            × (now (out .exit)
-                ≡ unlessRefused (playTold registers (length (now (words .entry))) (length (now (out .entry))))
-                (now (out .entry))
-                (sets (now (out .entry)) 0 (playedOf registers counter (now (words .entry)))))
-        ⌝
-    }
+    ensures { λ r. ⌜
+        (told (r .answer) ≡ playTold registers (length (now (words .entry))) (length (now (out .entry))))
+        × (r .counter
+        ≡ unlessRefused (playTold registers (length (now (words .entry))) (length (now (out .entry))))
+        counter
+        (counterAfter counter (4 * length (now (words .entry)))))
+        × (now (out .exit)
+        ≡ unlessRefused (playTold registers (length (now (words .entry))) (length (now (out .entry))))
+        (now (out .entry))
+        (sets (now (out .entry)) 0 (playedOf registers counter (now (words .entry)))))
+        ⌝ }
 {
     match registers.check_sound() {
         Answer::Refused(why) => Played {

@@ -8,46 +8,35 @@ use mathlib.Core.Path.{_∙_, ap}
 use borrow.Author.Needs.{needs}
 use Rattle.sound.proofs.pair.Statement.{statement}
 use Rattle.sound.proofs.pair.Tie as tie
-use Rattle.sound.proofs.pair.Reads as reads
-use Rattle.sound.proofs.pair.Lts as lts
-use Rattle.sound.proofs.amplitude.amplitudes.Reads as amplitudes-reads
-use Rattle.sound.proofs.amplitude.value.Reads as value-reads
-use Rattle.sound.proofs.sixths.left_of.Reads as left-of-reads
-use Rattle.sound.proofs.sixths.right_of.Reads as right-of-reads
 
--- src/lib.rt:48:9
 returns : tie.Need-returns
 unfolding pairTold
 returns c = rw (eq-eqb (c .before .args .stereo % 8) 0 (c .if1 .taken))
 
--- src/lib.rt:50:17
 amplitudes-requires : tie.Need-amplitudes-requires
 amplitudes-requires c κs = search needs
 
--- src/lib.rt:52:27
 left-of-requires : tie.Need-left-of-requires
 left-of-requires c κs = search needs
 
--- src/lib.rt:52:15
 value-requires : tie.Need-value-requires
 value-requires c κs = search needs
 
--- src/lib.rt:53:28
 right-of-requires : tie.Need-right-of-requires
 right-of-requires c κs = search needs
 
--- src/lib.rt:53:16
 value-requires-2 : tie.Need-value-requires-2
 value-requires-2 c κs = search needs
 
--- src/lib.rt:43:1
 returns-2 : tie.Need-returns-2
 unfolding pairTold
 returns-2 c = let a = c .before .before .before .before .before .before .before .before .args in
     let s = a .stereo % 8 in
-    rw (ne-eqb s 0 (c .before .before .before .before .before .before .before .if1 .left),
+    rw (
+      ne-eqb s 0 (c .before .before .before .before .before .before .before .if1 .left),
       stored (a .byte) (leftOf s) _ (search needs) (search needs) (c .before .before .before .value .ensures ∙ ap (valueOf (a .byte)) (c .before .before .before .before .before .left-of .ensures)),
-      stored (a .byte) (rightOf s) _ (search needs) (search needs) (c .value2 .ensures ∙ ap (valueOf (a .byte)) (c .before .before .right-of .ensures)))
+      stored (a .byte) (rightOf s) _ (search needs) (search needs) (c .value2 .ensures ∙ ap (valueOf (a .byte)) (c .before .before .right-of .ensures)),
+    )
 
 pub pair-spec : {M : Type 1} → statement M
 pair-spec =

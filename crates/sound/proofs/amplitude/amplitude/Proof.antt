@@ -1,22 +1,16 @@
 use borrow.Author.Needs.{needs}
 use Rattle.sound.proofs.amplitude.amplitude.Statement.{statement}
 use Rattle.sound.proofs.amplitude.amplitude.Tie as tie
-use Rattle.sound.proofs.amplitude.amplitude.Reads as reads
-use Rattle.sound.proofs.amplitude.amplitude.Lts as lts
 
--- src/amplitude.rt:149:11
 cast-result : tie.Need-cast-result
 cast-result c = search needs
 
--- src/amplitude.rt:149:5
 mul-result : tie.Need-mul-result
 mul-result c = search needs
 
--- src/amplitude.rt:149:5
 element-copy-out-result : tie.Need-element-copy-out-result
 element-copy-out-result c = search needs
 
--- src/amplitude.rt:145:1
 returns : tie.Need-returns
 returns c = c .before .pre (c .before .args .byte) (search needs)
 

@@ -1,10 +1,7 @@
 use Rattle.sound.proofs.Amplitudes.{amplitude-at}
 use Rattle.sound.proofs.amplitude.amplitudes.Statement.{statement}
 use Rattle.sound.proofs.amplitude.amplitudes.Tie as tie
-use Rattle.sound.proofs.amplitude.amplitudes.Reads as reads
-use Rattle.sound.proofs.amplitude.amplitudes.Lts as lts
 
--- src/amplitude.rt:139:1
 returns : tie.Need-returns
 returns c = amplitude-at
 
