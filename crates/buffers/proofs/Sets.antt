@@ -1,12 +1,12 @@
 -- Stores one after another: a loop that stores a list's elements in order has, at each turn, the whole left to store.
-use mathlib.Core.Path.{_≡_, refl, sym, _∙_, ap}
+use mathlib.Core.Path.{_≡_, sym, _∙_, ap}
 use mathlib.Core.List.{List, [], _∷_, _++_}
-use Prim.Native.Nat.{ℕ, suc, _+_, _≤_, _<_}
+use Prim.Native.Nat.{ℕ, suc, _+_, _-_, _≤_, _<_}
 use native.Mathlib.Numerals.{add-one}
 use native.Mathlib.Nat.{add-zero, add-suc, suc-add}
 use native.Mathlib.Omega.{arith}
-use lib.ListN.{length, getD, set, drop, take, drop-of-length-le, take-append-drop}
-use lib.Seq.{sets, drop-cons, length-sets, sets-eq}
+use lib.ListN.{length, getD, set, drop, drop-of-length-le, List·getD-append}
+use lib.Seq.{sets, drop-cons, sets-eq, getD-append-add, getD-drop}
 
 module _ {A : Type 0} where
   pub sets-append : (l : List A) (i : ℕ) (xs ys : List A) → sets l i (xs ++ ys) ≡ sets (sets l i xs) (i + length xs) ys
@@ -28,3 +28,17 @@ module _ {A : Type 0} where
       let q : at + 2 ≡ suc (suc at) = omega arith in
       let r : at + 3 ≡ suc (suc (suc at)) = omega arith in
       rw (p, q, r)
+
+  -- what stands at each place after a list was stored at the start, and that the rest is as it was
+  pub sets-at : (l vs : List A) (i : ℕ) (d : A) → length vs ≤ length l → i < length vs → getD (sets l 0 vs) i d ≡ getD vs i d
+  sets-at l vs i d fits h = rw (sets-eq vs l 0 (omega arith)) (List·getD-append vs (drop (0 + length vs) l) d i h)
+
+  pub sets-beyond : (l vs : List A) (i : ℕ) (d : A) → length vs ≤ length l → length vs ≤ i → getD (sets l 0 vs) i d ≡ getD l i d
+  sets-beyond l vs i d fits h =
+      let n : i ≡ length vs + (i - length vs) = omega arith in
+      let m : 0 + length vs + (i - length vs) ≡ i = omega arith in
+      rw (sets-eq vs l 0 (omega arith))
+      (ap (λ (k : ℕ). getD (vs ++ drop (0 + length vs) l) k d) n
+      ∙ getD-append-add vs (drop (0 + length vs) l) (i - length vs) d
+      ∙ getD-drop (0 + length vs) l (i - length vs) d
+      ∙ ap (λ (k : ℕ). getD l k d) m)

@@ -7,7 +7,7 @@ use native.Mathlib.Nat.{add-zero}
 use native.Mathlib.Omega.{arith}
 use lib.ListN.{length, getD, drop, take}
 use lib.Seq.{drop-cons, drop-drop, getD-drop}
-use Rattle.buffers.specs.Words.{word, wordAt, wordsOf, bytesOf}
+use Rattle.buffers.specs.Words.{word, wordAt, wordsOf, bytesOf, byteOf}
 
 -- every element is below n
 abbrev pub Below : ℕ → List ℕ → Type 0
@@ -123,3 +123,15 @@ bytes-back n (a ∷ b ∷ []) e h = absurd (no-2 n e)
 bytes-back n (a ∷ b ∷ c ∷ []) e h = absurd (no-3 n e)
 bytes-back n (a ∷ b ∷ c ∷ d ∷ bs) e h =
     rw (byte0 a b c d (h 0) (h 1) (h 2) (h 3), byte1 a b c d (h 0) (h 1) (h 2) (h 3), byte2 a b c d (h 0) (h 1) (h 2) (h 3), byte3 a b c d (h 0) (h 1) (h 2) (h 3), bytes-back (n - 1) bs (omega arith) (λ i. h (suc (suc (suc (suc i))))))
+
+pub bytes-at : (ws : List ℕ) (k : ℕ) → k < 4 * length ws → getD (bytesOf ws) k 0 ≡ byteOf ws k
+unfolding bytesOf
+bytes-at [] k h = absurd (omega arith)
+bytes-at (w ∷ ws) zero h = omega arith
+bytes-at (w ∷ ws) (suc zero) h = refl
+bytes-at (w ∷ ws) (suc (suc zero)) h = refl
+bytes-at (w ∷ ws) (suc (suc (suc zero))) h = refl
+bytes-at (w ∷ ws) (suc (suc (suc (suc k)))) h =
+    let q : suc (suc (suc (suc k))) / 4 ≡ suc (k / 4) = omega arith in
+    let r : suc (suc (suc (suc k))) % 4 ≡ k % 4 = omega arith in
+    bytes-at ws k (omega arith) ∙ rw (q, r)

@@ -1,5 +1,5 @@
 -- Words of 32 bits and their bytes, lowest byte first.
-use Prim.Native.Nat.{ℕ, _+_, _*_, _/_, _%_}
+use Prim.Native.Nat.{ℕ, _+_, _*_, _/_, _%_, _^_}
 use mathlib.Core.List.{List, [], _∷_}
 use lib.ListN.{getD}
 
@@ -23,3 +23,7 @@ wordsOf (a ∷ b ∷ c ∷ d ∷ bytes) = word a b c d ∷ wordsOf bytes
 unfoldable pub bytesOf : List ℕ → List ℕ
 bytesOf [] = []
 bytesOf (w ∷ words) = w % 256 ∷ w / 256 % 256 ∷ w / 65536 % 256 ∷ w / 16777216 % 256 ∷ bytesOf words
+
+-- Byte k of a list of words.
+abbrev pub byteOf : List ℕ → ℕ → ℕ
+byteOf words k = getD words (k / 4) 0 / 2 ^ (8 * (k % 4)) % 256

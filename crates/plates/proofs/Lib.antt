@@ -5,3 +5,5 @@ pub mod Plates
 pub mod Written
 pub mod Again
 pub mod RoundTrip
+pub mod Unique
+pub mod Cases

@@ -1,12 +1,12 @@
 -- One turn of each loop over words, as stores of a list: what is left to store.
-use mathlib.Core.Path.{_≡_, refl, sym, _∙_, ap}
+use mathlib.Core.Path.{_≡_, _∙_}
 use mathlib.Core.List.{List, [], _∷_}
 use Prim.Native.Nat.{ℕ, suc, _+_, _*_, _≤_, _<_}
 use native.Mathlib.Numerals.{add-one}
 use native.Mathlib.Omega.{arith}
 use lib.ListN.{length, getD, set, take, drop, drop-of-length-le}
 use lib.Seq.{sets, drop-cons, getD-take, length-take-le}
-use Rattle.buffers.specs.Words.{word, wordAt, wordsOf, bytesOf}
+use Rattle.buffers.specs.Words.{wordAt, wordsOf, bytesOf}
 use Rattle.buffers.proofs.Sets.{sets-turn, sets-done}
 use Rattle.buffers.proofs.Words.{words-at, length-words}
 

@@ -1,17 +1,16 @@
 -- The plate of four lists is right, and reads back as those lists.
-use mathlib.Core.Path.{_≡_, refl, sym, _∙_, ap}
-use mathlib.Core.Bool.{Bool, true, not, _&&_}
+use mathlib.Core.Path.{_≡_}
+use mathlib.Core.Bool.{true}
 use mathlib.Core.List.{List, [], _∷_, _++_}
 use Prim.Native.Nat.{ℕ, zero, suc, _+_, _*_, _-_, _^_, _≤_, _<_}
 use native.Mathlib.Omega.{arith}
 use lib.ListN.{length, getD, take, length-append}
 use lib.Seq.{getD-append-add, take-at}
-use lib.Dec.{leb, eqb}
 use borrow.Author.Tests.{le-leb, eq-eqb}
 use Rattle.buffers.specs.Words.{wordAt, wordsOf, bytesOf}
 use Rattle.buffers.proofs.Words.{Below, below-append, bytes-append, length-bytes, words-at, words-back}
 use Rattle.registers.specs.Table.{given}
-use Rattle.plates.specs.Plate.{mostBytes, rOf, vOf, cOf, sOf, right, sectionsOf, sectionsBy, trailerOf, plateOf, plateLength}
+use Rattle.plates.specs.Plate.{mostBytes, rOf, vOf, cOf, sOf, right, sectionsBy, trailerOf, plateOf, plateLength}
 use Rattle.plates.specs.Read.{readTold, copied}
 
 below-four : (n a b c d : ℕ) → a < n → b < n → c < n → d < n → Below n (a ∷ b ∷ c ∷ d ∷ [])
@@ -46,7 +45,7 @@ module _
   below-whole =
       below-append _ (all rs vs cs ss) (trailerOf rs vs cs ss) below-all
       (below-four (2 ^ 32) (length rs + (length vs + (length cs + length ss))) (length vs + (length cs + length ss)) (length cs + length ss) (length ss)
-        (omega arith) (omega arith) (omega arith) (omega arith))
+      (omega arith) (omega arith) (omega arith) (omega arith))
 
   -- the trailer's word i
   trailer-word : (i n : ℕ) → i < 4 → n ≡ length (plateOf rs vs cs ss) - 16 + 4 * i → wordAt (plateOf rs vs cs ss) n ≡ getD (trailerOf rs vs cs ss) i 0
@@ -74,13 +73,19 @@ module _
 
   is-right : right (plateOf rs vs cs ss) ≡ true
   is-right =
-      rw (r-is, v-is, c-is, s-is, length-plate rs vs cs ss,
+      rw (
+        r-is,
+        v-is,
+        c-is,
+        s-is,
+        length-plate rs vs cs ss,
         le-leb 16 (plateLength rs vs cs ss) (omega arith),
         le-leb (plateLength rs vs cs ss) mostBytes fits,
         le-leb (length vs + (length cs + length ss)) (length rs + (length vs + (length cs + length ss))) (omega arith),
         le-leb (length cs + length ss) (length vs + (length cs + length ss)) (omega arith),
         le-leb (length ss) (length cs + length ss) (omega arith),
-        eq-eqb (4 * (length rs + (length vs + (length cs + length ss))) + 16) (plateLength rs vs cs ss) (omega arith))
+        eq-eqb (4 * (length rs + (length vs + (length cs + length ss))) + 16) (plateLength rs vs cs ss) (omega arith),
+      )
 
   -- reading answers the sections of the lists
   pub plate-read :

@@ -1,11 +1,11 @@
 -- Reading a file, 14, and copying out all words before the trailer, 14 then 13.
 use Prim.Native.Nat.{ℕ, _*_}
-use mathlib.Core.Bool.{Bool, not}
+use mathlib.Core.Bool.{not}
 use mathlib.Core.List.{List, [], _∷_}
 use lib.ListN.{length, take}
 use lib.Dec.{ltb}
 use Rattle.buffers.specs.Words.{wordsOf}
-use Rattle.registers.specs.Table.{Told, Row, row, judged, given, refusal, andThen}
+use Rattle.registers.specs.Table.{Told, row, judged, given, refusal, andThen}
 use Rattle.plates.specs.Plate.{rOf, vOf, cOf, sOf, trailerRule, right, sectionsOf}
 use Rattle.plates.specs.declared.Sections.{Sections}
 use Rattle.plates.specs.declared.Reading.{Reading}

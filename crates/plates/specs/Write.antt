@@ -2,7 +2,7 @@
 use Prim.Native.Nat.{ℕ}
 use mathlib.Core.List.{List, [], _∷_}
 use lib.Dec.{ltb}
-use Rattle.registers.specs.Table.{Told, Row, row, judged, given, refusal}
+use Rattle.registers.specs.Table.{Told, row, judged, given, refusal}
 use Rattle.plates.specs.Plate.{mostBytes, plateLength}
 use Rattle.plates.specs.declared.Writing.{Writing}
 use Rattle.plates.specs.declared.Writing.the-variants.{Bytes, Refused}

@@ -1,11 +1,11 @@
 -- The table of amplitudes follows its rule: one test, computed at each of the 128 entries.
-use mathlib.Core.Path.{_≡_, _∙_, ap}
-use mathlib.Core.Bool.{Bool, true, _&&_}
+use mathlib.Core.Path.{_≡_}
+use mathlib.Core.Bool.{Bool}
 use mathlib.Core.List.{List, [], _∷_}
 use Prim.Native.Nat.{ℕ, _+_, _*_, _-_, _/_, _%_, _^_, _<_, _≤_}
 use native.Mathlib.Omega.{arith}
-use lib.Dec.{T, eqb, leb, eqb→eq, leb→le}
-use lib.ListN.{length, getD}
+use lib.Dec.{eqb, leb, eqb→eq, leb→le}
+use lib.ListN.{getD}
 use Rattle.buffers.proofs.Table.{at}
 use Rattle.sound.specs.Amplitude.{amplitudeOf}
 

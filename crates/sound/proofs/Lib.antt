@@ -1,3 +1,9 @@
 pub mod Amplitudes
 pub mod Signed
 pub mod Turns
+pub mod Eight
+pub mod Calls
+pub mod Unique
+pub mod Cases
+pub mod Accepted
+pub mod Places

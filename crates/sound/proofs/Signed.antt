@@ -1,8 +1,8 @@
 -- Signed values as the machine has them: every value fits 16 bits, and is within ±23,712 at six sixths or fewer.
-use mathlib.Core.Path.{_≡_, refl, sym, _∙_, ap}
+use mathlib.Core.Path.{_≡_, refl, _∙_, ap}
 use mathlib.Core.Bool.{Bool, true, false}
 use Prim.Native.Nat.{ℕ, zero, suc, _+_, _*_, _-_, _%_, _<_, _≤_}
-use native.Mathlib.Nat.{mul-le-mul, le-trans}
+use native.Mathlib.Nat.{mul-le-mul}
 use native.Mathlib.Omega.{arith}
 use lib.Dec.{eqb}
 use lib.IntN.{ℤ, pos, negsuc, negℤ, natAbs, _-ℤ_, _*ℤ_, +ℤ-idl}
@@ -31,9 +31,9 @@ signed-abs : (byte : ℕ) → byte < 256 → natAbs (signedOf byte) ≤ 3952
 unfolding signedOf
 signed-abs byte h = go (eqb (byte % 2) 1)
   where
-  go : (t : Bool) → natAbs (pick t (negℤ (pos (amplitudeOf byte))) (pos (amplitudeOf byte))) ≤ 3952
-  go true = rw (abs-neg (amplitudeOf byte)) (amplitude-most byte h)
-  go false = amplitude-most byte h
+    go : (t : Bool) → natAbs (pick t (negℤ (pos (amplitudeOf byte))) (pos (amplitudeOf byte))) ≤ 3952
+    go true = rw (abs-neg (amplitudeOf byte)) (amplitude-most byte h)
+    go false = amplitude-most byte h
 
 value-abs : (byte sixths n : ℕ) → byte < 256 → sixths ≤ n → natAbs (valueOf byte sixths) ≤ 3952 * n
 unfolding valueOf

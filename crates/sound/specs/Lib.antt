@@ -1,2 +1,5 @@
 pub mod Amplitude
+pub mod Sixths
 pub mod Values
+pub mod Play
+pub mod Pair

@@ -1,9 +1,9 @@
 // A byte's amplitude, its sign, and its value in sixths.
 ghost use mathlib.Core.Path.{_≡_};
 ghost use Prim.Native.Nat.{_≤_};
-ghost use Rattle.sound.specs.Amplitude.{amplitudeOf, signedOf, valueOf};
+ghost use Rattle.sound.specs.Amplitude.{Amplitudes, amplitudeOf, signedOf, valueOf};
 
-// The amplitude of a byte, by its bits 7-1.
+// The amplitude of each byte, by its bits 7-1.
 const AMPLITUDES: [u16; 128] = [
     0,
     1,
@@ -135,17 +135,26 @@ const AMPLITUDES: [u16; 128] = [
     3952,
 ];
 
-fn amplitude(byte: u8) -> u16
+// The table, to be lent: an index into the constant itself would copy it each time.
+pub fn amplitudes() -> [u16; 128]
+    ensures { λ r. ⌜ Amplitudes r ⌝ }
+{
+    AMPLITUDES
+}
+
+fn amplitude(byte: u8, table: &[u16; 128]) -> u16
+    requires { ⌜ Amplitudes (now table) ⌝ }
     ensures { λ r. ⌜ r ≡ amplitudeOf byte ⌝ }
 {
-    AMPLITUDES[(byte / 2) as usize]
+    table[(byte / 2) as usize]
 }
 
 // The amplitude, negated by the sign bit.
-fn signed(byte: u8) -> i16
+fn signed(byte: u8, table: &[u16; 128]) -> i16
+    requires { ⌜ Amplitudes (now table) ⌝ }
     ensures { λ r. ⌜ r ≡ signedOf byte ⌝ }
 {
-    let a = amplitude(byte) as i16;
+    let a = amplitude(byte, table) as i16;
     if byte % 2 == 1 {
         return -a;
     }
@@ -153,9 +162,9 @@ fn signed(byte: u8) -> i16
 }
 
 // Times sixths.
-pub fn value(byte: u8, sixths: u8) -> i16
-    requires { ⌜ sixths ≤ 7 ⌝ }
+pub fn value(byte: u8, sixths: u8, table: &[u16; 128]) -> i16
+    requires { ⌜ (sixths ≤ 7) × Amplitudes (now table) ⌝ }
     ensures { λ r. ⌜ r ≡ valueOf byte sixths ⌝ }
 {
-    signed(byte) * (sixths as i16)
+    signed(byte, table) * (sixths as i16)
 }

@@ -1,3 +1,93 @@
 // Sound: signed sixths, left then right, of each byte of a list of words.
 mod amplitude;
+mod sixths;
 mod values;
+
+use amplitude::amplitudes;
+use amplitude::value;
+use registers::record::Registers;
+use registers::refusal::Answer;
+use registers::refusal::Refusal;
+use sixths::left_of;
+use sixths::lefts;
+use sixths::right_of;
+use sixths::rights;
+use values::put_words;
+ghost use mathlib.Core.Path.{_≡_};
+ghost use Prim.Native.Nat.{_*_};
+ghost use lib.ListN.{length};
+ghost use lib.Seq.{sets};
+ghost use Rattle.registers.specs.Table.{told, unlessRefused};
+ghost use Rattle.sound.specs.Values.{counterAfter};
+ghost use Rattle.sound.specs.Play.{playTold, playedOf};
+ghost use Rattle.sound.specs.Pair.{toldPair, pairTold};
+
+// The counter after the last byte, or as it came where the answer is a refusal.
+pub struct Played {
+    pub counter: u32,
+    pub answer: Answer,
+}
+
+// One byte's two values, in sixths.
+pub struct Sides {
+    pub left: i16,
+    pub right: i16,
+}
+
+pub enum Pairing {
+    Given(Sides),
+    Refused(Refusal),
+}
+
+// One byte's pair for a stereo value, of which the three lowest bits count: 10 where they are 0.
+pub fn pair(byte: u8, stereo: u8) -> Pairing
+    ensures { λ r. ⌜ toldPair r ≡ pairTold byte stereo ⌝ }
+{
+    let bits = stereo % 8;
+    if bits == 0 {
+        return Pairing::Refused(Refusal::Sound(0));
+    }
+    let table = amplitudes();
+    Pairing::Given(Sides {
+        left: value(byte, left_of(bits), &table),
+        right: value(byte, right_of(bits), &table),
+    })
+}
+
+// The words' values in lent memory, from its first place on: 8 for each word. 3, 10, then 13.
+pub fn play(registers: Registers, words: &[u32], counter: u32, out: &mut [i16]) -> Played
+    ensures { λ r. ⌜
+        (told (r .answer) ≡ playTold registers (length (now (words .entry))) (length (now (out .entry))))
+        × (r .counter
+        ≡ unlessRefused (playTold registers (length (now (words .entry))) (length (now (out .entry))))
+        counter
+        (counterAfter counter (4 * length (now (words .entry)))))
+        × (now (out .exit)
+        ≡ unlessRefused (playTold registers (length (now (words .entry))) (length (now (out .entry))))
+        (now (out .entry))
+        (sets (now (out .entry)) 0 (playedOf registers counter (now (words .entry)))))
+        ⌝ }
+{
+    match registers.check_sound() {
+        Answer::Refused(why) => Played {
+            counter: counter,
+            answer: Answer::Refused(why),
+        },
+        Answer::Done => {
+            if out.len() / 8 < words.len() {
+                return Played {
+                    counter: counter,
+                    answer: Answer::Refused(Refusal::Short),
+                };
+            }
+            let left = lefts(registers);
+            let right = rights(registers);
+            let table = amplitudes();
+            let after = put_words(out, words, counter, &left, &right, &table);
+            Played {
+                counter: after,
+                answer: Answer::Done,
+            }
+        }
+    }
+}

@@ -4,19 +4,13 @@ use borrow.Author.Tests.{leb-true}
 use lib.ListN.{length}
 use Rattle.plates.proofs.read.Statement.{statement}
 use Rattle.plates.proofs.read.Tie as tie
-use Rattle.plates.proofs.read.Reads as reads
-use Rattle.plates.proofs.read.Lts as lts
-use Rattle.plates.proofs.read_trailer.Reads as read-trailer-reads
 
--- src/lib.rt:90:9
 read-trailer-requires : tie.Need-read-trailer-requires
 read-trailer-requires c κs = leb-true 16 (length (c .before .before .args .file .now)) (and-split _ _ (c .if1 .taken) .0)
 
--- src/lib.rt:90:9
 returns : tie.Need-returns
 returns c = read-right (c .before .before .before .args .file .now) _ (c .before .if1 .taken) (c .read-trailer .ensures)
 
--- src/lib.rt:85:1
 returns-2 : tie.Need-returns-2
 returns-2 c = read-wrong (c .before .before .args .file .now) (c .if1 .left)
 

@@ -5,65 +5,47 @@ use native.Mathlib.Omega.{arith}
 use borrow.Author.Needs.{needs}
 use Rattle.plates.proofs.read_trailer.Statement.{statement}
 use Rattle.plates.proofs.read_trailer.Tie as tie
-use Rattle.plates.proofs.read_trailer.Reads as reads
-use Rattle.plates.proofs.read_trailer.Lts as lts
-use Rattle.plates.proofs.starts.Reads as starts-reads
-use Rattle.plates.proofs.words.word_at.Reads as word-at-reads
 
--- src/lib.rt:74:27
 sub-word-at : tie.Need-sub-word-at
 sub-word-at c = search needs
 
--- src/lib.rt:74:9
 word-at-requires : tie.Need-word-at-requires
 word-at-requires c κs = search needs
 
--- src/lib.rt:75:27
 sub-word-at-2 : tie.Need-sub-word-at-2
 sub-word-at-2 c = search needs
 
--- src/lib.rt:75:9
 word-at-requires-2 : tie.Need-word-at-requires-2
 word-at-requires-2 c κs = search needs
 
--- src/lib.rt:76:27
 sub-word-at-3 : tie.Need-sub-word-at-3
 sub-word-at-3 c = search needs
 
--- src/lib.rt:76:9
 word-at-requires-3 : tie.Need-word-at-requires-3
 word-at-requires-3 c κs = search needs
 
--- src/lib.rt:77:27
 sub-word-at-4 : tie.Need-sub-word-at-4
 sub-word-at-4 c = search needs
 
--- src/lib.rt:77:9
 word-at-requires-4 : tie.Need-word-at-requires-4
 word-at-requires-4 c κs = search needs
 
--- src/lib.rt:78:47
 cast-if1 : tie.Need-cast-if1
 cast-if1 c = search needs
 
--- src/lib.rt:78:42
 mul-if1 : tie.Need-mul-if1
 mul-if1 c = search needs
 
--- src/lib.rt:78:42
 add-if1 : tie.Need-add-if1
 add-if1 c = search needs
 
--- src/lib.rt:79:31
 starts-requires : tie.Need-starts-requires
 starts-requires c κs = let o = ordered _ (c .before .before .before .before .word-at .result) (c .before .before .before .word-at2 .result) (c .before .before .word-at3 .result) (c .before .word-at4 .result) (c .if1 .taken) in
     (o .v-r, omega (arith, o .v-r, o .c-v), omega (arith, o .v-r, o .c-v, o .s-c))
 
--- src/lib.rt:79:9
 returns : tie.Need-returns
 returns c = simp (← c .before .before .before .before .before .word-at .ensures, ← c .before .before .before .before .word-at2 .ensures, ← c .before .before .before .word-at3 .ensures, ← c .before .before .word-at4 .ensures, c .before .if1 .taken) (ap given (c .starts .ensures))
 
--- src/lib.rt:69:1
 returns-2 : tie.Need-returns-2
 returns-2 c = simp (← c .before .before .before .before .word-at .ensures, ← c .before .before .before .word-at2 .ensures, ← c .before .before .word-at3 .ensures, ← c .before .word-at4 .ensures, c .if1 .left)
 

@@ -1,16 +1,12 @@
 use mathlib.Core.Path.{_≡_, sym, _∙_}
 use Prim.Native.Nat.{_≤_, _*_, _-_}
 use borrow.Author.Needs.{needs}
-use native.Mathlib.Omega.{arith}
 use lib.ListN.{length, take, drop, length-set}
 use lib.Seq.{sets}
 use Rattle.buffers.specs.Words.{wordsOf}
 use Rattle.plates.proofs.Turns.{copy-turn, copy-done}
 use Rattle.plates.proofs.words.copy_words.Statement.{statement}
 use Rattle.plates.proofs.words.copy_words.Tie as tie
-use Rattle.plates.proofs.words.copy_words.Reads as reads
-use Rattle.plates.proofs.words.copy_words.Lts as lts
-use Rattle.plates.proofs.words.word_at.Reads as word-at-reads
 
 abbrev Inv-loop : tie.InvT-loop
 Inv-loop bytes count out₀ k₀ out k =
@@ -20,35 +16,27 @@ Inv-loop bytes count out₀ k₀ out k =
 abbrev μ-loop : tie.MeasureT-loop
 μ-loop bytes count out₀ k₀ out k = count - k
 
--- src/words.rt:29:5
 loop-holds : tie.Need-loop-holds Inv-loop μ-loop
 loop-holds c = search needs
 
--- src/words.rt:30:33
 mul-word-at : tie.Need-mul-word-at Inv-loop μ-loop
 mul-word-at c = search needs
 
--- src/words.rt:30:18
 word-at-requires : tie.Need-word-at-requires Inv-loop μ-loop
 word-at-requires c κs = search needs
 
--- src/words.rt:30:9
 mul-out : tie.Need-mul-out Inv-loop μ-loop
 mul-out c = search needs
 
--- src/words.rt:30:9
 slice-write-out : tie.Need-slice-write-out Inv-loop μ-loop
 slice-write-out c = search needs
 
--- src/words.rt:31:9
 add-k : tie.Need-add-k Inv-loop μ-loop
 add-k c = search needs
 
--- src/words.rt:29:5
 loop-less : tie.Need-loop-less Inv-loop μ-loop
 loop-less c = search needs
 
--- src/words.rt:29:5
 loop-again : tie.Need-loop-again Inv-loop μ-loop
 loop-again c = let s = c .before .before .before .before .before in
     let l = c .before .before .loop in (
@@ -57,11 +45,9 @@ loop-again c = let s = c .before .before .before .before .before in
       l .inv .2 ∙ copy-turn (s .args .bytes .now) (s .args .count) (s .pre .0) (l .out) (l .k) (c .word-at .result) (search needs) (c .word-at .ensures),
     )
 
--- src/words.rt:24:1
 same-length : tie.Need-same-length Inv-loop μ-loop
 same-length c = search needs
 
--- src/words.rt:24:1
 returns : tie.Need-returns Inv-loop μ-loop
 returns c = let s = c .before .before .before .before in
     let l = c .before .loop in

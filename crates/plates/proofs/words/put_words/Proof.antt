@@ -2,16 +2,12 @@ use native.Mathlib.Nat.{add-zero, mul-zero}
 use mathlib.Core.Path.{_≡_, sym, _∙_}
 use Prim.Native.Nat.{_≤_, _+_, _*_, _-_}
 use borrow.Author.Needs.{needs}
-use native.Mathlib.Omega.{arith}
 use lib.ListN.{length, drop}
 use lib.Seq.{sets}
 use Rattle.buffers.specs.Words.{bytesOf}
 use Rattle.plates.proofs.Turns.{put-turn, put-done}
 use Rattle.plates.proofs.words.put_words.Statement.{statement}
 use Rattle.plates.proofs.words.put_words.Tie as tie
-use Rattle.plates.proofs.words.put_words.Reads as reads
-use Rattle.plates.proofs.words.put_words.Lts as lts
-use Rattle.plates.proofs.words.put_word.Reads as put-word-reads
 
 abbrev Inv-loop : tie.InvT-loop
 Inv-loop out₀ at words k₀ out k =
@@ -21,39 +17,30 @@ Inv-loop out₀ at words k₀ out k =
 abbrev μ-loop : tie.MeasureT-loop
 μ-loop out₀ at words k₀ out k = length words - k
 
--- src/words.rt:52:5
 loop-holds : tie.Need-loop-holds Inv-loop μ-loop
 loop-holds c = (search needs, search needs, rw (mul-zero, add-zero))
 
--- src/words.rt:53:28
 mul-put-word : tie.Need-mul-put-word Inv-loop μ-loop
 mul-put-word c = search needs
 
--- src/words.rt:53:23
 add-put-word : tie.Need-add-put-word Inv-loop μ-loop
 add-put-word c = search needs
 
--- src/words.rt:53:35
 mul-put-word-2 : tie.Need-mul-put-word-2 Inv-loop μ-loop
 mul-put-word-2 c = search needs
 
--- src/words.rt:53:35
 shared-slice-read-put-word : tie.Need-shared-slice-read-put-word Inv-loop μ-loop
 shared-slice-read-put-word c = search needs
 
--- src/words.rt:53:9
 put-word-requires : tie.Need-put-word-requires Inv-loop μ-loop
 put-word-requires c κs = search needs
 
--- src/words.rt:54:9
 add-k : tie.Need-add-k Inv-loop μ-loop
 add-k c = search needs
 
--- src/words.rt:52:5
 loop-less : tie.Need-loop-less Inv-loop μ-loop
 loop-less c = search needs
 
--- src/words.rt:52:5
 loop-again : tie.Need-loop-again Inv-loop μ-loop
 loop-again c = let s = c .before .before .before .before .before .before .before .before .before in
     let l = c .before .before .before .before .before .before .loop in (
@@ -62,11 +49,9 @@ loop-again c = let s = c .before .before .before .before .before .before .before
       l .inv .2 ∙ put-turn (s .args .words .now) (l .out) _ (s .args .at) (l .k) (search needs) (c .before .before .put-word .ensures),
     )
 
--- src/words.rt:47:1
 same-length : tie.Need-same-length Inv-loop μ-loop
 same-length c = search needs
 
--- src/words.rt:47:1
 returns : tie.Need-returns Inv-loop μ-loop
 returns c = let s = c .before .before .before .before in
     let l = c .before .loop in

@@ -2,25 +2,18 @@ use Rattle.sound.proofs.Signed.{product-fits, product-is}
 use borrow.Author.Needs.{needs}
 use Rattle.sound.proofs.amplitude.value.Statement.{statement}
 use Rattle.sound.proofs.amplitude.value.Tie as tie
-use Rattle.sound.proofs.amplitude.value.Reads as reads
-use Rattle.sound.proofs.amplitude.value.Lts as lts
-use Rattle.sound.proofs.amplitude.signed.Reads as signed-reads
 
--- src/amplitude.rt:160:5
 signed-requires : tie.Need-signed-requires
 signed-requires c κs = search needs
 
--- src/amplitude.rt:160:21
 cast-result : tie.Need-cast-result
 cast-result c = search needs
 
--- src/amplitude.rt:160:5
 mul-result : tie.Need-mul-result
-mul-result c = product-fits (c .before .args .byte) (search needs) (c .before .args .sixths) (c .before .pre) _ (c .signed .ensures)
+mul-result c = product-fits (c .before .args .byte) (search needs) (c .before .args .sixths) (c .before .pre .0) _ (c .signed .ensures)
 
--- src/amplitude.rt:156:1
 returns : tie.Need-returns
-returns c = product-is (c .before .args .byte) (search needs) (c .before .args .sixths) (c .before .pre) _ (c .signed .ensures)
+returns c = product-is (c .before .args .byte) (search needs) (c .before .args .sixths) (c .before .pre .0) _ (c .signed .ensures)
 
 pub value-spec : {M : Type 1} → statement M
 value-spec = tie.close (tie.spec signed-requires cast-result mul-result returns)

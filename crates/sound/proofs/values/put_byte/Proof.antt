@@ -6,55 +6,40 @@ use native.Mathlib.Omega.{arith}
 use borrow.Author.Needs.{needs}
 use Rattle.sound.proofs.values.put_byte.Statement.{statement}
 use Rattle.sound.proofs.values.put_byte.Tie as tie
-use Rattle.sound.proofs.values.put_byte.Reads as reads
-use Rattle.sound.proofs.values.put_byte.Lts as lts
-use Rattle.sound.proofs.amplitude.value.Reads as value-reads
 
--- src/values.rt:22:19
 cast-channel : tie.Need-cast-channel
 cast-channel c = search needs
 
--- src/values.rt:23:27
 element-copy-out-value : tie.Need-element-copy-out-value
 element-copy-out-value c = search needs
 
--- src/values.rt:23:15
 value-requires : tie.Need-value-requires
-value-requires c κs = c .before .pre .1 _
+value-requires c κs = (c .before .pre .1 _, c .before .pre .3)
 
--- src/values.rt:23:5
 mul-out : tie.Need-mul-out
 mul-out c = search needs
 
--- src/values.rt:23:5
 slice-set-from-out : tie.Need-slice-set-from-out
 slice-set-from-out c = search needs
 
--- src/values.rt:24:31
 element-copy-out-value-2 : tie.Need-element-copy-out-value-2
 element-copy-out-value-2 c = search needs
 
--- src/values.rt:24:19
 value-requires-2 : tie.Need-value-requires-2
-value-requires-2 c κs = c .before .before .before .pre .2 _
+value-requires-2 c κs = (c .before .before .before .pre .2 _, c .before .before .before .pre .3)
 
--- src/values.rt:24:9
-add-t13 : tie.Need-add-t13
-add-t13 c = search needs
+add-t14 : tie.Need-add-t14
+add-t14 c = search needs
 
--- src/values.rt:24:5
-mul-t17 : tie.Need-mul-t17
-mul-t17 c = search needs
+mul-t18 : tie.Need-mul-t18
+mul-t18 c = search needs
 
--- src/values.rt:24:5
 slice-set-from-out-2 : tie.Need-slice-set-from-out-2
 slice-set-from-out-2 c = simp length-set (omega arith)
 
--- src/values.rt:13:1
 same-length : tie.Need-same-length
 same-length c = search needs
 
--- src/values.rt:13:1
 returns : tie.Need-returns
 returns c = let a = c .before .before .before .before .args in
     let p = c .before .before .before .before .pre in
@@ -73,8 +58,8 @@ put-byte-spec =
     slice-set-from-out
     element-copy-out-value-2
     value-requires-2
-    add-t13
-    mul-t17
+    add-t14
+    mul-t18
     slice-set-from-out-2
     same-length
     returns)

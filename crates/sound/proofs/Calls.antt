@@ -1,0 +1,46 @@
+-- From what the check of the registers tells to what the sound call tells.
+use mathlib.Core.Path.{_≡_, _∙_}
+use mathlib.Core.List.{List}
+use Prim.Native.Nat.{ℕ, _*_, _/_, _<_, _≤_}
+use native.Mathlib.Omega.{arith}
+use lib.IntN.{ℤ}
+use lib.ListN.{length}
+use lib.Seq.{sets}
+use borrow.Author.Tests.{lt-ltb, le-ltb}
+use Rattle.buffers.specs.Words.{bytesOf}
+use Rattle.registers.specs.Table.{Told, given, refused, unlessRefused}
+use Rattle.registers.specs.Sound.{soundTold}
+use Rattle.registers.specs.declared.record.Registers.{Registers}
+use Rattle.sound.specs.Sixths.{leftAt, rightAt, eight}
+use Rattle.sound.specs.Values.{counterAfter, valuesOf, inTable}
+use Rattle.sound.specs.Play.{playTold, playedOf}
+use Rattle.sound.proofs.Eight.{values-by}
+
+module _ (g : Registers) (words : List ℕ) (counter : ℕ) (out : List ℤ) where
+  -- the three promises of the call, of its answer, counter and memory
+  abbrev pub Promised : Told (Unit {0}) → ℕ → List ℤ → Type 0
+  Promised t c after =
+      (t ≡ playTold g (length words) (length out))
+      × (c ≡ unlessRefused (playTold g (length words) (length out)) counter (counterAfter counter (4 * length words)))
+      × (after ≡ unlessRefused (playTold g (length words) (length out)) out (sets out 0 (playedOf g counter words)))
+
+  pub play-refused : (n d : ℕ) → refused n d ≡ soundTold g → Promised (refused n d) counter out
+  unfolding playTold
+  play-refused n d e = (rw (← e), rw (← e), rw (← e))
+
+  pub play-short : given tt ≡ soundTold g → length out / 8 < length words → Promised (refused 13 0) counter out
+  unfolding playTold
+  play-short e h =
+      let t = lt-ltb (length out) (8 * length words) (omega arith) in
+      (rw (← e, t), rw (← e, t), rw (← e, t))
+
+  pub play-done :
+      (c : ℕ) (after : List ℤ) (lefts rights : List ℕ) → given tt ≡ soundTold g → length words ≤ length out / 8
+      → lefts ≡ eight (leftAt g) → rights ≡ eight (rightAt g)
+      → c ≡ counterAfter counter (4 * length words)
+      → after ≡ sets out 0 (valuesOf (inTable lefts) (inTable rights) counter (bytesOf words))
+      → Promised (given tt) c after
+  unfolding playTold playedOf
+  play-done c after lefts rights e h l r p q =
+      let t = le-ltb (length out) (8 * length words) (omega arith) in
+      (rw (← e, t), rw (← e, t) p, rw (← e, t) (q ∙ rw (l, r, values-by (leftAt g) (rightAt g) counter (bytesOf words))))

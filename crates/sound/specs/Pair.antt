@@ -1,0 +1,21 @@
+-- One byte's pair for a stereo value of three bits: 10 where it is 0.
+use Prim.Native.Nat.{ℕ, _%_}
+use mathlib.Core.List.{[], _∷_}
+use lib.Dec.{eqb}
+use Rattle.registers.specs.Table.{Told, row, judged, given, refusal}
+use Rattle.sound.specs.Amplitude.{valueOf}
+use Rattle.sound.specs.Sixths.{leftOf, rightOf}
+use Rattle.sound.specs.declared.Sides.{Sides}
+use Rattle.sound.specs.declared.Pairing.{Pairing}
+use Rattle.sound.specs.declared.Pairing.the-variants.{Given, Refused}
+
+-- An answer as the paper has it.
+abbrev pub toldPair : Pairing → Told Sides
+toldPair (Given sides) = given sides
+toldPair (Refused why) = refusal why
+
+abbrev pub sidesOf : ℕ → ℕ → Sides
+sidesOf byte stereo = record { left = valueOf byte (leftOf stereo); right = valueOf byte (rightOf stereo) }
+
+unfoldable pub pairTold : ℕ → ℕ → Told Sides
+pairTold byte stereo = judged (row 10 (eqb (stereo % 8) 0) 0 ∷ []) (sidesOf byte (stereo % 8))

@@ -1,0 +1,22 @@
+-- Stereo values 1 to 7 give left 6, 5, 4, 3, 2, 1, 0 sixths, right the rest.
+use Prim.Native.Nat.{ℕ, _-_}
+use mathlib.Core.List.{List, [], _∷_}
+use Rattle.registers.specs.Stereo.{stereoOf}
+use Rattle.registers.specs.declared.record.Registers.{Registers}
+
+abbrev pub leftOf : ℕ → ℕ
+leftOf stereo = 7 - stereo
+
+abbrev pub rightOf : ℕ → ℕ
+rightOf stereo = 6 - leftOf stereo
+
+-- The sixths of a channel: its register's stereo value says them.
+abbrev pub leftAt : Registers → ℕ → ℕ
+leftAt g channel = leftOf (stereoOf g channel)
+
+abbrev pub rightAt : Registers → ℕ → ℕ
+rightAt g channel = rightOf (stereoOf g channel)
+
+-- A table of the eight channels.
+abbrev pub eight : (ℕ → ℕ) → List ℕ
+eight of = of 0 ∷ of 1 ∷ of 2 ∷ of 3 ∷ of 4 ∷ of 5 ∷ of 6 ∷ of 7 ∷ []
