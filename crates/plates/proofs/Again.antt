@@ -20,7 +20,7 @@ use Rattle.plates.proofs.Calls.{right-ordered}
 slice-append : (a b c : ℕ) (l : List ℕ) → a ≤ b → b ≤ c → c ≤ length l → slice a b l ++ slice b c l ≡ slice a c l
 slice-append a b c l p q h =
     let t : take c l ≡ take b l ++ drop b (take c l) =
-        sym (take-append-drop b (take c l)) ∙ ap (λ (x : List ℕ). x ++ drop b (take c l)) (take-take b c l q) in
+    sym (take-append-drop b (take c l)) ∙ ap (λ (x : List ℕ). x ++ drop b (take c l)) (take-take b c l q) in
     sym (drop-append-le a (take b l) (drop b (take c l)) (omega (arith, length-take-le b l (omega arith)))) ∙ ap (drop a) (sym t)
 
 -- a part of what was stored at the start of a list
@@ -32,8 +32,10 @@ slice-sets l vs a b h k =
 halves : (file : List ℕ) (k n : ℕ) → length file ≡ 4 * (k + n) → Below 256 file → bytesOf (wordsOf (take (4 * k) file) ++ wordsOf (drop (4 * k) file)) ≡ file
 halves file k n e h =
     bytes-append (wordsOf (take (4 * k) file)) (wordsOf (drop (4 * k) file))
-    ∙ rw (bytes-back k (take (4 * k) file) (length-take-le (4 * k) file (omega arith)) (below-take 256 (4 * k) file (omega arith) h),
-      bytes-back n (drop (4 * k) file) (length-drop (4 * k) file ∙ (omega arith)) (below-drop 256 (4 * k) file h)) (take-append-drop (4 * k) file)
+    ∙ rw (
+      bytes-back k (take (4 * k) file) (length-take-le (4 * k) file (omega arith)) (below-take 256 (4 * k) file (omega arith) h),
+      bytes-back n (drop (4 * k) file) (length-drop (4 * k) file ∙ (omega arith)) (below-drop 256 (4 * k) file h),
+    ) (take-append-drop (4 * k) file)
 
 module _ (file : List ℕ) (h : right file ≡ true) (small : Below 256 file) where
   o : Ordered (length file) (rOf file) (vOf file) (cOf file) (sOf file)
@@ -82,11 +84,13 @@ module _ (file : List ℕ) (h : right file ≡ true) (small : Below 256 file) wh
       let sc = o .s-c in
       let lw : r ≤ length w = omega (arith, length-sets m 0 (copied file)) in
       let a : slice 0 v w ++ slice v c w ++ slice c s w ++ slice s r w ≡ copied file =
-          rw (slice-append 0 v c w (omega arith) (omega arith) (omega arith),
-            slice-append 0 c s w (omega arith) (omega arith) (omega arith),
-            slice-append 0 s r w (omega arith) (omega arith) (omega arith),
-            slice-sets m (copied file) 0 r (omega (arith, length-copied)) (omega (arith, length-copied)))
-          (take-all r (copied file) (omega (arith, length-copied))) in
+      rw (
+        slice-append 0 v c w (omega arith) (omega arith) (omega arith),
+        slice-append 0 c s w (omega arith) (omega arith) (omega arith),
+        slice-append 0 s r w (omega arith) (omega arith) (omega arith),
+        slice-sets m (copied file) 0 r (omega (arith, length-copied)) (omega (arith, length-copied)),
+      )
+      (take-all r (copied file) (omega (arith, length-copied))) in
       let lr : length rs ≡ v = ap length er ∙ length-slice 0 v w (omega arith) ∙ (omega arith) in
       let lv : length vs ≡ vOf file - cOf file = ap length ev ∙ length-slice v c w (omega arith) ∙ (omega arith) in
       let lc : length cs ≡ cOf file - sOf file = ap length ec ∙ length-slice c s w (omega arith) ∙ (omega arith) in

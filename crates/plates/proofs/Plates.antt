@@ -39,7 +39,7 @@ module _ (rs vs cs ss : List ℕ) where
       let q3 = section o o2 o3 (rs ++ vs) cs c q2 p3 (omega (arith, length-append rs vs)) in
       let q4 = section o o3 o4 ((rs ++ vs) ++ cs) ss s q3 p4 (omega (arith, length-append rs vs, length-append (rs ++ vs) cs)) in
       let q5 = section o o4 o5 (((rs ++ vs) ++ cs) ++ ss) ts t q4 p5
-          (omega (arith, length-append rs vs, length-append (rs ++ vs) cs, length-append ((rs ++ vs) ++ cs) ss)) in
+      (omega (arith, length-append rs vs, length-append (rs ++ vs) cs, length-append ((rs ++ vs) ++ cs) ss)) in
       q5 ∙ simp (append-assoc, e)
 
   pub write-large :
@@ -62,7 +62,7 @@ module _ (rs vs cs ss : List ℕ) where
       (out after : List ℕ) → length rs + length vs + length cs + length ss ≤ 1048572 → plateLength rs vs cs ss ≤ length out
       → after ≡ sets out 0 (plateOf rs vs cs ss)
       → (given (plateLength rs vs cs ss) ≡ writeTold rs vs cs ss (length out))
-        × (after ≡ unlessRefused (writeTold rs vs cs ss (length out)) out (sets out 0 (plateOf rs vs cs ss)))
+      × (after ≡ unlessRefused (writeTold rs vs cs ss (length out)) out (sets out 0 (plateOf rs vs cs ss)))
   unfolding writeTold
   write-done out after h k e =
       let t = le-ltb mostBytes (plateLength rs vs cs ss) (omega arith) in

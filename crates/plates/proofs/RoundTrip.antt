@@ -33,7 +33,7 @@ pub record ReadsBack (file rs vs cs ss : List ℕ) : Type 0 where
       (κs : Lfts 1) (a : Dens κs read-kinds.ps) (x : resT read-kinds.r κs .Denot) (s : AtExit (endedOf 1 read-kinds.ps read-kinds.r) κs)
       → read-reads.Post κs a x s → now (a .0) ≡ file
       → toldRead x
-        ≡ given (sectionsBy (length rs + (length vs + (length cs + length ss))) (length vs + (length cs + length ss)) (length cs + length ss) (length ss))
+      ≡ given (sectionsBy (length rs + (length vs + (length cs + length ss))) (length vs + (length cs + length ss)) (length cs + length ss) (length ss))
   pub copying :
       (κs : Lfts 2) (a : Dens κs copy-kinds.ps) (x : resT copy-kinds.r κs .Denot) (s : AtExit (endedOf 2 copy-kinds.ps copy-kinds.r) κs)
       → copy-reads.Post κs a x s → now (a .0) ≡ file → length rs + (length vs + (length cs + length ss)) ≤ length (now (a .1 .0))
@@ -58,12 +58,13 @@ module _
         reading = λ κs a x s p e. p ∙ ap readTold e ∙ plate-read rs vs cs ss br bv bc bs fits;
         copying = λ κs a x s p e h.
             let t : copyTold (now (a .0)) (length (now (a .1 .0))) ≡ given tt =
-                ap (λ (l : List ℕ). copyTold l (length (now (a .1 .0)))) e
-                ∙ copy-told (plateOf rs vs cs ss) _ (length (now (a .1 .0))) (plate-read rs vs cs ss br bv bc bs fits) h in
-            (p .0 ∙ t,
+            ap (λ (l : List ℕ). copyTold l (length (now (a .1 .0)))) e
+            ∙ copy-told (plateOf rs vs cs ss) _ (length (now (a .1 .0))) (plate-read rs vs cs ss br bv bc bs fits) h in (
+              p .0 ∙ t,
               p .1 ∙ ap (λ (u : Told (Unit {0})). unlessRefused u (now (a .1 .0)) (sets (now (a .1 .0)) 0 (copied (now (a .0))))) t
-              ∙ ap (λ (l : List ℕ). sets (now (a .1 .0)) 0 (copied l)) e
-              ∙ ap (sets (now (a .1 .0)) 0) (plate-copied rs vs cs ss br bv bc bs fits));
+                  ∙ ap (λ (l : List ℕ). sets (now (a .1 .0)) 0 (copied l)) e
+                  ∙ ap (sets (now (a .1 .0)) 0) (plate-copied rs vs cs ss br bv bc bs fits),
+            );
       }
 
 -- Read back as written: four lists whose plate fits are written, and the bytes written read back as those lists.
@@ -74,8 +75,8 @@ pub read-back-as-written :
     → plateLength (now (a .0)) (now (a .1 .0)) (now (a .1 .1 .0)) (now (a .1 .1 .1 .0)) ≤ mostBytes
     → plateLength (now (a .0)) (now (a .1 .0)) (now (a .1 .1 .0)) (now (a .1 .1 .1 .0)) ≤ length (now (a .1 .1 .1 .1 .0))
     → (toldWritten x ≡ given (plateLength (now (a .0)) (now (a .1 .0)) (now (a .1 .1 .0)) (now (a .1 .1 .1 .0))))
-      × ReadsBack (take (plateLength (now (a .0)) (now (a .1 .0)) (now (a .1 .1 .0)) (now (a .1 .1 .1 .0))) (now (s .1 .1 .1 .1 .0)))
-        (now (a .0)) (now (a .1 .0)) (now (a .1 .1 .0)) (now (a .1 .1 .1 .0))
+    × ReadsBack (take (plateLength (now (a .0)) (now (a .1 .0)) (now (a .1 .1 .0)) (now (a .1 .1 .1 .0))) (now (s .1 .1 .1 .1 .0)))
+    (now (a .0)) (now (a .1 .0)) (now (a .1 .1 .0)) (now (a .1 .1 .1 .0))
 read-back-as-written κs a x s p br bv bc bs fits room =
     let rs = now (a .0) in
     let vs = now (a .1 .0) in
@@ -84,11 +85,11 @@ read-back-as-written κs a x s p br bv bc bs fits room =
     let out = now (a .1 .1 .1 .1 .0) in
     let t = written-told rs vs cs ss out fits room in
     let after : now (s .1 .1 .1 .1 .0) ≡ sets out 0 (plateOf rs vs cs ss) =
-        p .1 ∙ ap (λ (u : Told ℕ). unlessRefused u out (sets out 0 (plateOf rs vs cs ss))) t in
+    p .1 ∙ ap (λ (u : Told ℕ). unlessRefused u out (sets out 0 (plateOf rs vs cs ss))) t in
     let l = length-plate rs vs cs ss in
     let whole : take (plateLength rs vs cs ss) (now (s .1 .1 .1 .1 .0)) ≡ plateOf rs vs cs ss =
-        ap (take (plateLength rs vs cs ss)) (after ∙ sets-eq (plateOf rs vs cs ss) out 0 (omega (arith, l)))
-        ∙ take-at (plateOf rs vs cs ss) _ (plateLength rs vs cs ss) l in
+    ap (take (plateLength rs vs cs ss)) (after ∙ sets-eq (plateOf rs vs cs ss) out 0 (omega (arith, l)))
+    ∙ take-at (plateOf rs vs cs ss) _ (plateLength rs vs cs ss) l in
     (p .0 ∙ t, subst (λ (file : List ℕ). ReadsBack file rs vs cs ss) (sym whole) (reads-back rs vs cs ss br bv bc bs fits))
 
 quarter : (n : ℕ) → 4 * n / 4 ≡ n
@@ -121,16 +122,17 @@ written-again-the-same κr b y t κc d z u κw a x s file sections small pr er a
     let g = right-given file sections (sym given-read) in
     let o = right-ordered file (g .is-right) in
     let words : now (u .1 .0) ≡ sets m 0 (copied file) =
-        pc .1
-        ∙ ap (λ (l : List ℕ). unlessRefused (copyTold l (length m)) m (sets m 0 (copied l))) ed
-        ∙ ap (λ (v : Told (Unit {0})). unlessRefused v m (sets m 0 (copied file))) (copy-told file sections (length m) given-read room) in
+    pc .1
+    ∙ ap (λ (l : List ℕ). unlessRefused (copyTold l (length m)) m (sets m 0 (copied l))) ed
+    ∙ ap (λ (v : Told (Unit {0})). unlessRefused v m (sets m 0 (copied file))) (copy-told file sections (length m) given-read room) in
     let plate : plateOf rs vs cs ss ≡ file =
-        cut-plate file (g .is-right) small m rs vs cs ss (omega (arith, ap (λ (q : Sections). q .r) (g .are)))
-        (e0 ∙ rw (words, g .are, quarter))
-        (e1 ∙ rw (words, g .are) (simp quarter))
-        (e2 ∙ rw (words, g .are) (simp quarter))
-        (e3 ∙ rw (words, g .are) (simp quarter)) in
+    cut-plate file (g .is-right) small m rs vs cs ss (omega (arith, ap (λ (q : Sections). q .r) (g .are)))
+    (e0 ∙ rw (words, g .are, quarter))
+    (e1 ∙ rw (words, g .are) (simp quarter))
+    (e2 ∙ rw (words, g .are) (simp quarter))
+    (e3 ∙ rw (words, g .are) (simp quarter)) in
     let l : plateLength rs vs cs ss ≡ length file = sym (length-plate rs vs cs ss) ∙ ap length plate in
-    let told-write = written-told rs vs cs ss out (omega (arith, right-short file (g .is-right))) (omega arith) in
-    (pw .0 ∙ told-write ∙ ap given l,
-      pw .1 ∙ ap (λ (v : Told ℕ). unlessRefused v out (sets out 0 (plateOf rs vs cs ss))) told-write ∙ ap (sets out 0) plate)
+    let told-write = written-told rs vs cs ss out (omega (arith, right-short file (g .is-right))) (omega arith) in (
+      pw .0 ∙ told-write ∙ ap given l,
+      pw .1 ∙ ap (λ (v : Told ℕ). unlessRefused v out (sets out 0 (plateOf rs vs cs ss))) told-write ∙ ap (sets out 0) plate,
+    )

@@ -46,7 +46,7 @@ module _
   below-whole =
       below-append _ (all rs vs cs ss) (trailerOf rs vs cs ss) below-all
       (below-four (2 ^ 32) (length rs + (length vs + (length cs + length ss))) (length vs + (length cs + length ss)) (length cs + length ss) (length ss)
-        (omega arith) (omega arith) (omega arith) (omega arith))
+      (omega arith) (omega arith) (omega arith) (omega arith))
 
   -- the trailer's word i
   trailer-word : (i n : ℕ) → i < 4 → n ≡ length (plateOf rs vs cs ss) - 16 + 4 * i → wordAt (plateOf rs vs cs ss) n ≡ getD (trailerOf rs vs cs ss) i 0
@@ -74,13 +74,19 @@ module _
 
   is-right : right (plateOf rs vs cs ss) ≡ true
   is-right =
-      rw (r-is, v-is, c-is, s-is, length-plate rs vs cs ss,
+      rw (
+        r-is,
+        v-is,
+        c-is,
+        s-is,
+        length-plate rs vs cs ss,
         le-leb 16 (plateLength rs vs cs ss) (omega arith),
         le-leb (plateLength rs vs cs ss) mostBytes fits,
         le-leb (length vs + (length cs + length ss)) (length rs + (length vs + (length cs + length ss))) (omega arith),
         le-leb (length cs + length ss) (length vs + (length cs + length ss)) (omega arith),
         le-leb (length ss) (length cs + length ss) (omega arith),
-        eq-eqb (4 * (length rs + (length vs + (length cs + length ss))) + 16) (plateLength rs vs cs ss) (omega arith))
+        eq-eqb (4 * (length rs + (length vs + (length cs + length ss))) + 16) (plateLength rs vs cs ss) (omega arith),
+      )
 
   -- reading answers the sections of the lists
   pub plate-read :

@@ -49,12 +49,10 @@ fn step(out: &mut [u8], held: Run, cell: u16) -> Run
 // The line of some cells, stored from a place on; the place after it.
 pub fn put_line(out: &mut [u8], at: usize, cells: &[u16]) -> usize
     requires { ⌜ (1 ≤ length (now cells)) × (length (now cells) ≤ 2048) × (at + 4 * length (now cells) ≤ length (now out)) ⌝ }
-    ensures {
-        λ r. ⌜
-            (now (out .exit) ≡ sets (now (out .entry)) at (lineOf (now (cells .entry))))
-            × (r ≡ at + length (lineOf (now (cells .entry))))
-        ⌝
-    }
+    ensures { λ r. ⌜
+        (now (out .exit) ≡ sets (now (out .entry)) at (lineOf (now (cells .entry))))
+        × (r ≡ at + length (lineOf (now (cells .entry))))
+        ⌝ }
 {
     let mut held = Run {
         code: (cells[0] / 8192) as u32,

@@ -31,9 +31,9 @@ signed-abs : (byte : ℕ) → byte < 256 → natAbs (signedOf byte) ≤ 3952
 unfolding signedOf
 signed-abs byte h = go (eqb (byte % 2) 1)
   where
-  go : (t : Bool) → natAbs (pick t (negℤ (pos (amplitudeOf byte))) (pos (amplitudeOf byte))) ≤ 3952
-  go true = rw (abs-neg (amplitudeOf byte)) (amplitude-most byte h)
-  go false = amplitude-most byte h
+    go : (t : Bool) → natAbs (pick t (negℤ (pos (amplitudeOf byte))) (pos (amplitudeOf byte))) ≤ 3952
+    go true = rw (abs-neg (amplitudeOf byte)) (amplitude-most byte h)
+    go false = amplitude-most byte h
 
 value-abs : (byte sixths n : ℕ) → byte < 256 → sixths ≤ n → natAbs (valueOf byte sixths) ≤ 3952 * n
 unfolding valueOf

@@ -41,7 +41,7 @@ module _ (left right : ℕ → ℕ) where
       (words : List ℕ) (l m : List ℤ) (k c c4 : ℕ) → k < length words → c4 ≡ counterAfter c 4
       → m ≡ sets l (8 * k) (valuesOf left right c (bytesOf (getD words k 0 ∷ [])))
       → sets l (8 * k) (valuesOf left right c (bytesOf (drop k words)))
-        ≡ sets m (8 * (k + 1)) (valuesOf left right c4 (bytesOf (drop (k + 1) words)))
+      ≡ sets m (8 * (k + 1)) (valuesOf left right c4 (bytesOf (drop (k + 1) words)))
   unfolding valuesOf bytesOf
   words-turn words l m k c c4 h e p =
       let n : 8 * (k + 1) ≡ suc (suc (suc (suc (suc (suc (suc (suc (8 * k)))))))) = omega arith in

@@ -18,7 +18,7 @@ abbrev Inv-loop : tie.InvT-loop
 Inv-loop out₀ words counter lefts rights c₀ k₀ out c k =
     (k ≤ length words) × (length out ≡ length out₀) × (c ≡ counterAfter counter (4 * k))
     × (sets out₀ 0 (valuesOf (inTable lefts) (inTable rights) counter (bytesOf words))
-      ≡ sets out (8 * k) (valuesOf (inTable lefts) (inTable rights) c (bytesOf (drop k words))))
+    ≡ sets out (8 * k) (valuesOf (inTable lefts) (inTable rights) c (bytesOf (drop k words))))
 
 abbrev μ-loop : tie.MeasureT-loop
 μ-loop out₀ words counter lefts rights c₀ k₀ out c k = length words - k
@@ -59,11 +59,12 @@ loop-less c = search needs
 loop-again : tie.Need-loop-again Inv-loop μ-loop
 loop-again c = let s = c .before .before .before .before .before .before .before .before in
     let l = c .before .before .before .before .before .before .loop in
-    let a = s .args in
-    (search needs,
+    let a = s .args in (
+      search needs,
       search needs,
       omega (arith, c .wrapping-add-u32 .ensures, l .inv .2),
-      l .inv .3 ∙ words-turn (inTable (a .lefts .now)) (inTable (a .rights .now)) (a .words .now) (l .out) _ (l .k) (l .c) _ (search needs) (c .wrapping-add-u32 .ensures) (c .before .before .put-word .ensures))
+      l .inv .3 ∙ words-turn (inTable (a .lefts .now)) (inTable (a .rights .now)) (a .words .now) (l .out) _ (l .k) (l .c) _ (search needs) (c .wrapping-add-u32 .ensures) (c .before .before .put-word .ensures),
+    )
 
 -- src/values.rt:47:1
 same-length : tie.Need-same-length Inv-loop μ-loop
