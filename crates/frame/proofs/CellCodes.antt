@@ -49,11 +49,11 @@ implied : (e a b : Bool) → (e ≡ true → a ≡ false) → (e ≡ true → b 
 implied true a b p q = rw (p refl, q refl)
 implied false a b p q = refl
 
-between : (from to k : ℕ) → within from to k ≡ true → (from ≤ k) × (k < to)
+pub between : (from to k : ℕ) → within from to k ≡ true → (from ≤ k) × (k < to)
 between from to k e =
     (leb-true from k (and-split (leb from k) (ltb k to) e .0), ltb-true k to (and-split (leb from k) (ltb k to) e .1))
 
-betweens : (from to k : ℕ) → from ≤ k → k < to → within from to k ≡ true
+pub betweens : (from to k : ℕ) → from ≤ k → k < to → within from to k ≡ true
 betweens from to k a b = rw (le-leb from k a, lt-ltb k to b)
 
 uncovered : (c : Bool) (p : ℕ) → eqb (pick c 6 p) 5 ≡ (not c && eqb p 5)

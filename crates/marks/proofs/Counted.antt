@@ -7,11 +7,11 @@ use native.Mathlib.Nat.{mul-assoc, mul-div-cancel}
 use native.Mathlib.Omega.{arith}
 use lib.ListN.{length}
 use Rattle.buffers.specs.Pick.{pick}
-use Rattle.registers.specs.Setting.{displayOn, videoWords}
+use Rattle.registers.specs.Setting.{displayOn, rasterWords, videoWords}
 use Rattle.registers.specs.declared.record.Registers.{Registers}
 use Rattle.registers.specs.declared.setting.Setting.{Setting}
 use Rattle.registers.proofs.Accepted.{Accepted, video-off}
-use Rattle.registers.proofs.Words.{rasterWords, depth-least, raster-bits, video-rasters}
+use Rattle.registers.proofs.Words.{depth-least, raster-bits, video-rasters}
 use Rattle.marks.specs.Count.{total}
 use Rattle.marks.specs.Marks.{marksOf}
 use Rattle.marks.specs.Bright.{Tabled, bright, byteBright, pixelBright, wordAt, coveredBright, cursorRaster, coveredAll}

@@ -13,10 +13,10 @@ use lib.Pow.{pow-mono}
 use Rattle.buffers.specs.Pick.{pick}
 use Rattle.buffers.proofs.Tests.{no, unless, and-split}
 use Rattle.buffers.proofs.Product.{product-below}
-use Rattle.registers.specs.Setting.{videoWords, cursorWords}
+use Rattle.registers.specs.Setting.{rasterWords, videoWords, cursorWords}
 use Rattle.registers.specs.declared.setting.Setting.{Setting}
 use Rattle.registers.proofs.Accepted.{Accepted, cursor-off, cursor-words}
-use Rattle.registers.proofs.Words.{rasterWords, raster-bits, depth-least, depth-most, video-rasters, cursor-raster}
+use Rattle.registers.proofs.Words.{raster-bits, depth-least, depth-most, video-rasters, cursor-raster}
 use Rattle.frame.specs.Pixel.{pixel, position, logical, cursorPair}
 use Rattle.frame.specs.Cell.{inDisplay, plainCode, covered}
 use Rattle.frame.proofs.PixelPlaces.{pixel-below}

@@ -37,7 +37,7 @@ registerCases =
     ∷ (eqb (control (storedOf fresh 0xE000000B) - 8) 3 && eqb (depthOf (storedOf fresh 0xE000000B)) 4)
     -- 3: 60000001H sets stereo 7, not 0
     ∷ (eqb (stereoOf (storedOf fresh 0x60000001) 7) 1 && eqb (stereoOf (storedOf fresh 0x60000001) 0) 0
-      && writtenAt (storedOf fresh 0x60000001) 0x60 && not (writtenAt (storedOf fresh 0x60000001) 0x64))
+    && writtenAt (storedOf fresh 0x60000001) 0x60 && not (writtenAt (storedOf fresh 0x60000001) 0x64))
     -- the small plate: 30 words, which load and check, and need one video word
     ∷ (eqb (length smallWords) 30 && gives (loadTold smallWords) && gives (checkTold smallRegisters) && eqb (videoWords (settingOf smallRegisters)) 1)
     -- 11: HBER 15 accepted (BE 31), 16 refused with 6
@@ -46,10 +46,10 @@ registerCases =
     -- 12: HDER 2 refused with 6; HDER 5 (DE 17, width 6) with 8
     ∷ refuses 6 (checkTold (smallBut (timing 0x90 2)))
     ∷ (refuses 8 (checkTold (smallBut (timing 0x90 5))) && eqb (settingOf (smallBut (timing 0x90 5)) .de .0) 17
-      && eqb (settingOf (smallBut (timing 0x90 5)) .de .0 - settingOf (smallBut (timing 0x90 5)) .ds .0) 6)
+    && eqb (settingOf (smallBut (timing 0x90 5)) .de .0 - settingOf (smallBut (timing 0x90 5)) .ds .0) 6)
     -- 13: VDER 2 is display off, and no video word is needed
     ∷ (gives (checkTold (smallBut (timing 0xB0 2))) && not (displayOn (settingOf (smallBut (timing 0xB0 2))))
-      && eqb (videoWords (settingOf (smallBut (timing 0xB0 2)))) 0)
+    && eqb (videoWords (settingOf (smallBut (timing 0xB0 2)))) 0)
     ∷ []
 
 abbrev pub all : List Bool → Bool

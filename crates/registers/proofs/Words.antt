@@ -5,7 +5,7 @@ use mathlib.Core.Logic.{⊎-elim}
 use mathlib.Core.Path.{_≡_, refl, _∙_}
 use native.Mathlib.Nat.{mul-assoc, mul-comm, mul-le-mul}
 use native.Mathlib.Omega.{arith}
-use Rattle.registers.specs.Setting.{displayOn, videoWords, cursorWords}
+use Rattle.registers.specs.Setting.{displayOn, rasterWords, videoWords, cursorWords}
 use Rattle.registers.specs.declared.setting.Setting.{Setting}
 use Rattle.registers.proofs.Accepted.{Depth, Accepted, video-off, video-on, cursor-off, cursor-words}
 
@@ -14,10 +14,6 @@ depth-least h = ⊎-elim (λ e. omega arith) (⊎-elim (λ e. omega arith) (⊎-
 
 pub depth-most : {d : ℕ} → Depth d → d ≤ 8
 depth-most h = ⊎-elim (λ e. omega arith) (⊎-elim (λ e. omega arith) (⊎-elim (λ e. omega arith) (λ e. omega arith))) h
-
--- The words of one displayed raster.
-abbrev pub rasterWords : Setting → ℕ
-rasterWords s = (s .de .0 - s .ds .0) * s .depth / 32
 
 module _ (s : Setting) (a : Accepted s) where
   pub raster-bits : rasterWords s * 32 ≡ (s .de .0 - s .ds .0) * s .depth

@@ -36,6 +36,10 @@ displayOn s = ltb (s .vds .0) (s .vde .0)
 abbrev pub borderOn : Setting → Bool
 borderOn s = ltb (s .vbs .0) (s .vbe .0)
 
+-- A displayed raster has (DE-DS)·d/32 words.
+abbrev pub rasterWords : Setting → ℕ
+rasterWords s = (s .de .0 - s .ds .0) * s .depth / 32
+
 -- A frame needs (DE-DS)·(VDE-VDS)·d/32 video words, 0 if display is off,
 unfoldable pub videoWords : Setting → ℕ
 videoWords s = pick (displayOn s) ((s .de .0 - s .ds .0) * (s .vde .0 - s .vds .0) * s .depth / 32) 0

@@ -6,7 +6,18 @@ ghost use lib.Seq.{sets};
 ghost use Rattle.runs.specs.Decimal.{places, digitOf, decimal};
 
 // The powers of ten that a u32 reaches.
-const TENS: [u32; 10] = [1, 10, 100, 1_000, 10_000, 100_000, 1_000_000, 10_000_000, 100_000_000, 1_000_000_000];
+const TENS: [u32; 10] = [
+    1,
+    10,
+    100,
+    1_000,
+    10_000,
+    100_000,
+    1_000_000,
+    10_000_000,
+    100_000_000,
+    1_000_000_000,
+];
 
 // How many digits a number has.
 fn count_places(n: u32) -> usize

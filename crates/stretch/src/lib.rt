@@ -1,1 +1,35 @@
-// The words of one displayed raster.
+// The words of one displayed raster: a part of the caller's own list.
+mod found;
+
+use crate::found::Found;
+use crate::found::find;
+use registers::record::Registers;
+use registers::refusal::Answer;
+use registers::units::Rasters;
+ghost use mathlib.Core.Path.{_≡_};
+ghost use Rattle.registers.specs.Table.{told};
+ghost use Rattle.stretch.specs.Stretch.{stretchTold, wordsTold, answerTold};
+
+// The words of raster y; none where it is not displayed, or the call is refused.
+pub fn raster_words(g: Registers, video: &[u32], y: Rasters) -> &[u32]
+    ensures { λ r. ⌜ now r ≡ wordsTold (now (video .entry)) (stretchTold g (now (video .entry)) (y .0)) ⌝ }
+{
+    match find(g, video, y) {
+        Found::Refused(_) => &video[0..0],
+        Found::At(stretch) => {
+            let start = stretch.start;
+            let end = start + stretch.count;
+            &video[start..end]
+        }
+    }
+}
+
+// The refusal of the call above on the same inputs, or none.
+pub fn raster_words_answer(g: Registers, video: &[u32], y: Rasters) -> Answer
+    ensures { λ r. ⌜ told r ≡ answerTold (stretchTold g (now (video .entry)) (y .0)) ⌝ }
+{
+    match find(g, video, y) {
+        Found::Refused(why) => Answer::Refused(why),
+        Found::At(_) => Answer::Done,
+    }
+}

@@ -1,0 +1,18 @@
+-- For each public call, any two answers that its contract permits are the same.
+use mathlib.Core.Path.{sym, _∙_}
+use Rattle.buffers.proofs.Coincide.{OneAnswer}
+use Rattle.colours.proofs.colour.Kinds as colour-kinds
+use Rattle.colours.proofs.colour.Reads as colour-reads
+use Rattle.colours.proofs.grey.Kinds as grey-kinds
+use Rattle.colours.proofs.grey.Reads as grey-reads
+use Rattle.colours.proofs.pin.Kinds as pin-kinds
+use Rattle.colours.proofs.pin.Reads as pin-reads
+
+pub one-colour : OneAnswer 0 colour-kinds.ps colour-kinds.r colour-reads.Post
+one-colour κs a x y s t p q = p ∙ sym q
+
+pub one-grey : OneAnswer 0 grey-kinds.ps grey-kinds.r grey-reads.Post
+one-grey κs a x y s t p q = p ∙ sym q
+
+pub one-pin : OneAnswer 0 pin-kinds.ps pin-kinds.r pin-reads.Post
+one-pin κs a x y s t p q = p ∙ sym q

@@ -1,0 +1,70 @@
+-- What the two calls tell, from what the check tells.
+use Prim.Native.Nat.{ℕ, _+_, _-_, _≤_}
+use mathlib.Core.List.{List, []}
+use mathlib.Core.Path.{_≡_, refl, sym, _∙_, ap}
+use native.Mathlib.Nat.{add-sub-cancel-left}
+use borrow.Author.Tests.{eqb-true, not-false}
+use lib.Dec.{eqb}
+use lib.ListN.{length, take, drop}
+use Rattle.registers.specs.Table.{Told, given, refused, judged, andThen, refusal}
+use Rattle.registers.specs.Setting.{videoWords}
+use Rattle.registers.specs.Check.{checkTold, checkSays}
+use Rattle.registers.specs.declared.record.Registers.{Registers}
+use Rattle.registers.specs.declared.setting.Setting.{Setting}
+use Rattle.registers.specs.declared.refusal.Refusal.{Refusal}
+use Rattle.registers.specs.declared.check.Checked.{Checked}
+use Rattle.registers.specs.declared.check.Checked.the-variants as checked
+use Rattle.registers.proofs.Tables.{never, given-passes}
+use Rattle.registers.proofs.Accepted.{Accepted, accepted}
+use Rattle.stretch.specs.Stretch.{stretchOf, stretchTable, stretchTold, foundSays, wordsTold, answerTold}
+use Rattle.stretch.specs.declared.found.Stretch.{Stretch}
+use Rattle.stretch.specs.declared.found.Found.{Found}
+use Rattle.stretch.specs.declared.found.Found.the-variants as found
+use Rattle.stretch.proofs.Stretches.{stretch-room}
+
+module _ (g : Registers) (video : List ℕ) (y : ℕ) (x : Checked) (c : checkSays x ≡ checkTold g) where
+  pub find-refused : {why : Refusal} → x ≡ checked.Refused why → refusal why ≡ stretchTold g video y
+  unfolding stretchTold
+  find-refused e = rw (← c, e)
+
+  module _ {s : Setting} (e : x ≡ checked.Accepted s) where
+    told : checkTold g ≡ given s
+    told = sym c ∙ ap checkSays e
+
+    pub find-accepted : Accepted s
+    find-accepted = accepted g s told
+
+    pub find-given : {t : Told Stretch} → t ≡ judged (stretchTable s video y) (stretchOf s y) → t ≡ stretchTold g video y
+    unfolding stretchTold
+    find-given h = rw told h
+
+-- A stretch that is given lies within the words.
+module _ (g : Registers) (video : List ℕ) (y : ℕ) {p : Stretch} where
+  room-by : (t : Told Setting) → checkTold g ≡ t → andThen t (λ s. judged (stretchTable s video y) (stretchOf s y)) ≡ given p
+      → p .start + p .count ≤ length video
+  room-by (given s) e h =
+      let w = given-passes (stretchOf s y) (stretchTable s video y) p h in
+      let words : length video ≡ videoWords s = eqb-true (length video) (videoWords s) (not-false (eqb (length video) (videoWords s)) (w .0 .0)) in
+      rw (← w .1, words) (stretch-room s y (accepted g s e))
+  room-by (refused n d) e h = never (sym h)
+
+  given-room : stretchTold g video y ≡ given p → p .start + p .count ≤ length video
+  unfolding stretchTold
+  given-room h = room-by (checkTold g) refl h
+
+module _ (g : Registers) (video : List ℕ) (y : ℕ) (x : Found) (c : foundSays x ≡ stretchTold g video y) where
+  pub words-refused : {why : Refusal} → x ≡ found.Refused why → [] ≡ wordsTold video (stretchTold g video y)
+  words-refused e = rw (← c, e)
+
+  pub answer-refused : {why : Refusal} → x ≡ found.Refused why → refusal why ≡ answerTold (stretchTold g video y)
+  answer-refused e = rw (← c, e)
+
+  module _ {p : Stretch} (e : x ≡ found.At p) where
+    pub words-room : p .start + p .count ≤ length video
+    words-room = given-room g video y (sym c ∙ ap foundSays e)
+
+    pub words-given : take (p .start + p .count - p .start) (drop (p .start) video) ≡ wordsTold video (stretchTold g video y)
+    words-given = rw (← c, e, add-sub-cancel-left (p .start) (p .count))
+
+    pub answer-given : given tt ≡ answerTold (stretchTold g video y)
+    answer-given = rw (← c, e)

@@ -1,0 +1,4 @@
+pub mod Stretches
+pub mod Pixels
+pub mod Answers
+pub mod Unique

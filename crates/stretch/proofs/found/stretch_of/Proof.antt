@@ -1,0 +1,38 @@
+use Rattle.stretch.proofs.Stretches.{stretch-none, stretch-at, width-small, start-small}
+use Rattle.registers.proofs.Words.{depth-most}
+use mathlib.Core.Path.{sym}
+use native.Mathlib.Omega.{arith}
+use borrow.Author.Needs.{needs}
+use Rattle.stretch.proofs.found.stretch_of.Statement.{statement}
+use Rattle.stretch.proofs.found.stretch_of.Tie as tie
+
+returns : tie.Need-returns
+returns c = stretch-none _ _ (λ h. omega (arith, h .0, c .if1 .taken))
+
+returns-2 : tie.Need-returns-2
+returns-2 c = stretch-none _ _ (λ h. omega (arith, h .1, c .if2 .taken))
+
+sub-w : tie.Need-sub-w
+sub-w c = search needs
+
+cast-w : tie.Need-cast-w
+cast-w c = search needs
+
+cast-w-2 : tie.Need-cast-w-2
+cast-w-2 c = omega (arith, depth-most (c .before .before .before .before .before .before .pre .depth))
+
+mul-w : tie.Need-mul-w
+mul-w c = let s = c .before .before .before .before .before .before in omega (arith, width-small _ (s .args .y) (s .pre))
+
+cast-t8 : tie.Need-cast-t8
+cast-t8 c = search needs
+
+mul-t7 : tie.Need-mul-t7
+mul-t7 c = let s = c .before .before .before .before .before .before .before in omega (arith, start-small (s .args .s) _ (s .pre) (c .before .before .before .if2 .left))
+
+returns-3 : tie.Need-returns-3
+returns-3 c = sym (stretch-at _ _ (c .before .before .before .before .before .if1 .left) (c .before .before .before .if2 .left))
+
+pub stretch-of-spec : {M : Type 1} → statement M
+stretch-of-spec =
+    tie.close (tie.spec returns returns-2 sub-w cast-w cast-w-2 mul-w cast-t8 mul-t7 returns-3)

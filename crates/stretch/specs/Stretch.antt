@@ -1,0 +1,51 @@
+-- The words of one displayed raster: that stretch of the caller's own list.
+use Prim.Native.Nat.{ℕ, _*_, _-_}
+use mathlib.Core.Bool.{Bool, _&&_}
+use mathlib.Core.List.{List, [], _∷_}
+use lib.Dec.{leb}
+use lib.ListN.{take, drop}
+use Rattle.buffers.specs.Pick.{pick}
+use Rattle.registers.specs.Table.{Told, given, refused, Row, row, judged, andThen, refusal}
+use Rattle.registers.specs.Setting.{displayOn, rasterWords}
+use Rattle.registers.specs.Check.{checkTold}
+use Rattle.registers.specs.declared.record.Registers.{Registers}
+use Rattle.registers.specs.declared.setting.Setting.{Setting}
+use Rattle.frame.specs.Cell.{within}
+use Rattle.frame.specs.Frame.{videoWrong}
+use Rattle.stretch.specs.declared.found.Stretch.{Stretch}
+use Rattle.stretch.specs.declared.found.Found.{Found}
+use Rattle.stretch.specs.declared.found.Found.the-variants.{At, Refused}
+
+-- Raster y is displayed: the display is on, and y is in it.
+abbrev pub isDisplayed : Setting → ℕ → Bool
+isDisplayed s y = displayOn s && within (s .vds .0) (s .vde .0) y
+
+abbrev pub none : Stretch
+none = record { start = 0; count = 0 }
+
+-- Nothing is skipped between rasters. An undisplayed raster has no words.
+unfoldable pub stretchOf : Setting → ℕ → Stretch
+stretchOf s y = pick (isDisplayed s y) (record { start = (y - s .vds .0) * rasterWords s; count = rasterWords s }) none
+
+-- Refusals: the setting's, 11 for the video count alone, 12.
+abbrev pub stretchTable : Setting → List ℕ → ℕ → List Row
+stretchTable s video y =
+    row 11 (videoWrong s video) 0
+    ∷ row 12 (leb (s .v .0) y) 0
+    ∷ []
+
+unfoldable pub stretchTold : Registers → List ℕ → ℕ → Told Stretch
+stretchTold g video y = andThen (checkTold g) (λ s. judged (stretchTable s video y) (stretchOf s y))
+
+abbrev pub foundSays : Found → Told Stretch
+foundSays (At p) = given p
+foundSays (Refused why) = refusal why
+
+-- The stretch itself, empty where the call is refused.
+abbrev pub wordsTold : List ℕ → Told Stretch → List ℕ
+wordsTold video (given p) = take (p .count) (drop (p .start) video)
+wordsTold video (refused n d) = []
+
+-- And the refusal, or none.
+abbrev pub answerTold : Told Stretch → Told (Unit {0})
+answerTold t = andThen t (λ p. given tt)
