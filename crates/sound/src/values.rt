@@ -7,33 +7,57 @@ ghost use Prim.Native.Nat.{_+_, _*_, _≤_};
 ghost use lib.ListN.{length};
 ghost use lib.Seq.{sets};
 ghost use Rattle.buffers.specs.Words.{bytesOf};
+ghost use Rattle.sound.specs.Amplitude.{Amplitudes};
 ghost use Rattle.sound.specs.Values.{counterAfter, valuesOf, inTable, Sixths};
 
+// The counter some bytes later: it runs over from 4,294,967,295 to 0.
+fn advanced(counter: u32, bytes: u32) -> u32
+    ensures { λ r. ⌜ r ≡ counterAfter counter bytes ⌝ }
+{
+    wrapping_add_u32(counter, bytes)
+}
+
 // One byte's two values, at the channel that the counter says.
-fn put_byte(out: &mut [i16], at: usize, byte: u8, counter: u32, lefts: &[u8; 8], rights: &[u8; 8])
-    requires { ⌜ (at + 2 ≤ length (now out)) × Sixths (now lefts) × Sixths (now rights) ⌝ }
+fn put_byte(
+    out: &mut [i16],
+    at: usize,
+    byte: u8,
+    counter: u32,
+    lefts: &[u8; 8],
+    rights: &[u8; 8],
+    table: &[u16; 128],
+)
+    requires { ⌜ (at + 2 ≤ length (now out)) × Sixths (now lefts) × Sixths (now rights) × Amplitudes (now table) ⌝ }
     ensures { λ _. ⌜
         now (out .exit) ≡ sets (now (out .entry)) at
         (valuesOf (inTable (now (lefts .entry))) (inTable (now (rights .entry))) counter (byte ∷ []))
         ⌝ }
 {
     let channel = (counter % 8) as usize;
-    out[at] = value(byte, lefts[channel]);
-    out[at + 1] = value(byte, rights[channel]);
+    out[at] = value(byte, lefts[channel], table);
+    out[at + 1] = value(byte, rights[channel], table);
 }
 
 // One word's eight values.
-fn put_word(out: &mut [i16], at: usize, word: u32, counter: u32, lefts: &[u8; 8], rights: &[u8; 8])
-    requires { ⌜ (at + 8 ≤ length (now out)) × Sixths (now lefts) × Sixths (now rights) ⌝ }
+fn put_word(
+    out: &mut [i16],
+    at: usize,
+    word: u32,
+    counter: u32,
+    lefts: &[u8; 8],
+    rights: &[u8; 8],
+    table: &[u16; 128],
+)
+    requires { ⌜ (at + 8 ≤ length (now out)) × Sixths (now lefts) × Sixths (now rights) × Amplitudes (now table) ⌝ }
     ensures { λ _. ⌜
         now (out .exit) ≡ sets (now (out .entry)) at
         (valuesOf (inTable (now (lefts .entry))) (inTable (now (rights .entry))) counter (bytesOf (word ∷ [])))
         ⌝ }
 {
-    let second = wrapping_add_u32(counter, 1);
-    let third = wrapping_add_u32(second, 1);
-    let fourth = wrapping_add_u32(third, 1);
-    put_byte(out, at, (word % 0x100) as u8, counter, lefts, rights);
+    let second = advanced(counter, 1);
+    let third = advanced(second, 1);
+    let fourth = advanced(third, 1);
+    put_byte(out, at, (word % 0x100) as u8, counter, lefts, rights, table);
     put_byte(
         out,
         at + 2,
@@ -41,6 +65,7 @@ fn put_word(out: &mut [i16], at: usize, word: u32, counter: u32, lefts: &[u8; 8]
         second,
         lefts,
         rights,
+        table,
     );
     put_byte(
         out,
@@ -49,6 +74,7 @@ fn put_word(out: &mut [i16], at: usize, word: u32, counter: u32, lefts: &[u8; 8]
         third,
         lefts,
         rights,
+        table,
     );
     put_byte(
         out,
@@ -57,6 +83,7 @@ fn put_word(out: &mut [i16], at: usize, word: u32, counter: u32, lefts: &[u8; 8]
         fourth,
         lefts,
         rights,
+        table,
     );
 }
 
@@ -67,8 +94,9 @@ pub fn put_words(
     counter: u32,
     lefts: &[u8; 8],
     rights: &[u8; 8],
+    table: &[u16; 128],
 ) -> u32
-    requires { ⌜ (8 * length (now words) ≤ length (now out)) × Sixths (now lefts) × Sixths (now rights) ⌝ }
+    requires { ⌜ (8 * length (now words) ≤ length (now out)) × Sixths (now lefts) × Sixths (now rights) × Amplitudes (now table) ⌝ }
     ensures { λ r. ⌜
         (r ≡ counterAfter counter (4 * length (now (words .entry))))
         × (now (out .exit) ≡ sets (now (out .entry)) 0
@@ -78,8 +106,8 @@ pub fn put_words(
     let mut c = counter;
     let mut k = 0;
     while k < words.len() {
-        put_word(out, 8 * k, words[k], c, lefts, rights);
-        c = wrapping_add_u32(c, 4);
+        put_word(out, 8 * k, words[k], c, lefts, rights, table);
+        c = advanced(c, 4);
         k += 1;
     }
     c

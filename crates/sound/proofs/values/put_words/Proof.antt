@@ -1,5 +1,5 @@
 use mathlib.Core.Path.{_≡_, refl, sym, _∙_}
-use Prim.Native.Nat.{_≤_, _+_, _*_, _-_}
+use Prim.Native.Nat.{_≤_, _*_, _-_}
 use borrow.Author.Needs.{needs}
 use native.Mathlib.Omega.{arith}
 use lib.ListN.{length, drop}
@@ -9,68 +9,53 @@ use Rattle.sound.specs.Values.{counterAfter, valuesOf, inTable}
 use Rattle.sound.proofs.Turns.{words-turn, words-done}
 use Rattle.sound.proofs.values.put_words.Statement.{statement}
 use Rattle.sound.proofs.values.put_words.Tie as tie
-use Rattle.sound.proofs.values.put_words.Reads as reads
-use Rattle.sound.proofs.values.put_words.Lts as lts
-use Rattle.sound.proofs.values.put_word.Reads as put-word-reads
-use Rattle.std.proofs.num.wrapping_add_u32.Reads as wrapping-add-u32-reads
 
 abbrev Inv-loop : tie.InvT-loop
-Inv-loop out₀ words counter lefts rights c₀ k₀ out c k =
+Inv-loop out₀ words counter lefts rights table c₀ k₀ out c k =
     (k ≤ length words) × (length out ≡ length out₀) × (c ≡ counterAfter counter (4 * k))
     × (sets out₀ 0 (valuesOf (inTable lefts) (inTable rights) counter (bytesOf words))
     ≡ sets out (8 * k) (valuesOf (inTable lefts) (inTable rights) c (bytesOf (drop k words))))
 
 abbrev μ-loop : tie.MeasureT-loop
-μ-loop out₀ words counter lefts rights c₀ k₀ out c k = length words - k
+μ-loop out₀ words counter lefts rights table c₀ k₀ out c k = length words - k
 
--- src/values.rt:59:5
 loop-holds : tie.Need-loop-holds Inv-loop μ-loop
 loop-holds c = (search needs, search needs, omega arith, refl)
 
--- src/values.rt:60:23
 mul-put-word : tie.Need-mul-put-word Inv-loop μ-loop
 mul-put-word c = search needs
 
--- src/values.rt:60:30
 mul-put-word-2 : tie.Need-mul-put-word-2 Inv-loop μ-loop
 mul-put-word-2 c = search needs
 
--- src/values.rt:60:30
 shared-slice-read-put-word : tie.Need-shared-slice-read-put-word Inv-loop μ-loop
 shared-slice-read-put-word c = search needs
 
--- src/values.rt:60:9
 put-word-requires : tie.Need-put-word-requires Inv-loop μ-loop
-put-word-requires c κs = (search needs, c .before .before .before .before .before .pre .1, c .before .before .before .before .before .pre .2)
+put-word-requires c κs = (search needs, c .before .before .before .before .before .pre .1, c .before .before .before .before .before .pre .2, c .before .before .before .before .before .pre .3)
 
--- src/values.rt:61:9
-wrapping-add-u32-requires : tie.Need-wrapping-add-u32-requires Inv-loop μ-loop
-wrapping-add-u32-requires c κs = search needs
+advanced-requires : tie.Need-advanced-requires Inv-loop μ-loop
+advanced-requires c κs = search needs
 
--- src/values.rt:62:9
 add-k : tie.Need-add-k Inv-loop μ-loop
 add-k c = search needs
 
--- src/values.rt:59:5
 loop-less : tie.Need-loop-less Inv-loop μ-loop
 loop-less c = search needs
 
--- src/values.rt:59:5
 loop-again : tie.Need-loop-again Inv-loop μ-loop
 loop-again c = let s = c .before .before .before .before .before .before .before .before in
     let l = c .before .before .before .before .before .before .loop in
     let a = s .args in (
       search needs,
       search needs,
-      omega (arith, c .wrapping-add-u32 .ensures, l .inv .2),
-      l .inv .3 ∙ words-turn (inTable (a .lefts .now)) (inTable (a .rights .now)) (a .words .now) (l .out) _ (l .k) (l .c) _ (search needs) (c .wrapping-add-u32 .ensures) (c .before .before .put-word .ensures),
+      omega (arith, c .advanced .ensures, l .inv .2),
+      l .inv .3 ∙ words-turn (inTable (a .lefts .now)) (inTable (a .rights .now)) (a .words .now) (l .out) _ (l .k) (l .c) _ (search needs) (c .advanced .ensures) (c .before .before .put-word .ensures),
     )
 
--- src/values.rt:47:1
 same-length : tie.Need-same-length Inv-loop μ-loop
 same-length c = search needs
 
--- src/values.rt:47:1
 returns : tie.Need-returns Inv-loop μ-loop
 returns c = let a = c .before .before .before .args in
     let l = c .before .loop in
@@ -88,7 +73,7 @@ put-words-spec =
     mul-put-word-2
     shared-slice-read-put-word
     put-word-requires
-    wrapping-add-u32-requires
+    advanced-requires
     add-k
     loop-less
     loop-again
