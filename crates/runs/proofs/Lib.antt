@@ -3,3 +3,4 @@ pub mod Lengths
 pub mod Stored
 pub mod Puts
 pub mod Sheets
+pub mod Texts

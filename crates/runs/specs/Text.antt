@@ -1,5 +1,6 @@
 -- The printer's text: the head and a line for each raster, or one line that refuses.
-use Prim.Native.Nat.{ℕ, zero, suc, _+_, _-_}
+use Prim.Native.Nat.{ℕ, zero, suc, _+_, _-_, _≤_}
+use mathlib.Core.Path.{_≡_}
 use mathlib.Core.List.{List, [], _∷_, _++_}
 use lib.ListN.{length}
 use lib.Dec.{eqb, leb}
@@ -11,7 +12,8 @@ use Rattle.frame.specs.Frame.{rasterCell}
 use Rattle.marks.specs.Marks.{marksOf}
 use Rattle.runs.specs.Decimal.{decimal}
 use Rattle.runs.specs.Runs.{lineOf}
-use Rattle.runs.specs.Sheet.{registersOf, videoList, cursorList, sheetTold}
+use Rattle.runs.specs.Sheet.{part, registersOf, videoList, cursorList, pictureTold, sheetTold}
+use Rattle.runs.specs.declared.sheet.Opened.{Opened}
 
 -- A number behind some letters.
 unfoldable pub labelled : List ℕ → ℕ → List ℕ
@@ -38,10 +40,14 @@ valuesFrom rule k (suc n) = rule k ∷ valuesFrom rule (suc k) n
 unfoldable pub rasterLine : Registers → Setting → List ℕ → List ℕ → ℕ → List ℕ
 rasterLine g s video cursor y = lineOf (valuesFrom (rasterCell g s video cursor y) 0 (s .n .0))
 
--- Line k of a plate: 0 is the head, with threshold 128; then one for each raster; none after them.
+-- The head of a picture: the marks are those of threshold 128.
+unfoldable pub headOf : Registers → Setting → List ℕ → List ℕ → List ℕ
+headOf g s video cursor = headLine (s .n .0) (s .v .0) (length video) (marksOf g s video cursor 128)
+
+-- Line k of a plate: 0 is the head; then one for each raster; none after them.
 unfoldable pub pictureLine : Registers → Setting → List ℕ → List ℕ → ℕ → List ℕ
 pictureLine g s video cursor k =
-    pick (eqb k 0) (headLine (s .n .0) (s .v .0) (length video) (marksOf g s video cursor 128))
+    pick (eqb k 0) (headOf g s video cursor)
     (pick (leb k (s .v .0)) (rasterLine g s video cursor (k - 1)) [])
 
 abbrev pub lineFor : List ℕ → ℕ → Told Setting → List ℕ
@@ -50,6 +56,16 @@ lineFor file k (refused n d) = pick (eqb k 0) (refusedLine n d) []
 
 unfoldable pub lineAt : List ℕ → ℕ → List ℕ
 lineAt file k = lineFor file k (sheetTold file)
+
+-- A line of an opened plate, and what is known of one that is not refused.
+abbrev pub sheetLine : Opened → Setting → List ℕ → ℕ → List ℕ
+sheetLine r s words k = pictureLine (r .registers) s (part words (r .video) (r .cursor)) (part words (r .cursor) (r .sound)) k
+
+pub record Sheet (r : Opened) (s : Setting) (words : List ℕ) : Type 0 where
+  pub video-first : r .video ≤ r .cursor
+  pub cursor-first : r .cursor ≤ r .sound
+  pub inside : r .sound ≤ length words
+  pub told : pictureTold (r .registers) (part words (r .video) (r .cursor)) (part words (r .cursor) (r .sound)) ≡ given s
 
 -- How many lines there are, and the whole text: they stand one after the other.
 abbrev pub linesFor : Told Setting → ℕ

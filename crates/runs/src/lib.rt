@@ -2,4 +2,5 @@
 mod line;
 mod number;
 mod sheet;
+pub mod text;
 mod words;
