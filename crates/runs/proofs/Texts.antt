@@ -39,7 +39,7 @@ use Rattle.runs.specs.declared.sheet.Opened.{Opened}
 
 -- nothing stored
 pub put-nothing : (o : List ℕ) → Put o o 0 [] 0
-put-nothing o = record { stored = refl; after = refl }
+put-nothing o = record { stored = refl; after = refl; inside = omega arith }
 
 length-values : (rule : ℕ → ℕ) (k n : ℕ) → length (valuesFrom rule k n) ≡ n
 unfolding valuesFrom
