@@ -1,17 +1,16 @@
 -- Pixels of words: a pixel of a list is a field of one of its words, at any depth, and the words of a raster are a stretch of the list.
-use Prim.Native.Nat.{ℕ, zero, suc, _+_, _*_, _-_, _/_, _%_, _^_, _<_, _≤_}
-use mathlib.Core.Path.{_≡_, refl, sym, ap, _∙_}
+use Prim.Native.Nat.{ℕ, _+_, _*_, _-_, _/_, _%_, _^_, _<_, _≤_}
+use mathlib.Core.Path.{_≡_, sym, ap, _∙_}
 use mathlib.Core.List.{List}
-use native.Mathlib.Nat.{mod-eq-of-lt, mod-lt, one-mul, add-mul, mul-assoc, mul-comm, mul-add-div-right, mul-add-mod-self-right, mul-le-mul-right, add-sub-cancel-left, div-eq-of-lt, div-one, sub-self, zero-mul, mul-le-mul, mul-zero, le-mul-of-pos-right}
+use native.Mathlib.Nat.{mod-eq-of-lt, mod-lt, one-mul, mul-assoc, mul-le-mul-right, div-one, sub-self, zero-mul, mul-le-mul, mul-zero, le-mul-of-pos-right}
 use native.Mathlib.Omega.{arith}
-use lib.ListN.{length, getD, take, drop}
+use lib.ListN.{length, getD}
 use lib.Pow.{pow-pos, pow-mono, shr-shr}
-use lib.Seq.{getD-take, getD-drop}
 use Rattle.frame.specs.Pixel.{pixel}
 use Rattle.registers.proofs.Accepted.{Depth}
 use Rattle.frame.specs.Ink.{from, wordInk, wordsInk}
-use Rattle.buffers.proofs.Paints.{Paints, paint-more, paint-next, paint-as, paints-of}
-use mathlib.Core.Logic.{_⊎_, inl, inr}
+use Rattle.buffers.proofs.Paints.{Paints, paint-next, paint-as, paints-of}
+use mathlib.Core.Logic.{inl, inr}
 use Rattle.frame.proofs.PixelPlaces.{pixel-in}
 use Rattle.buffers.proofs.Split.{lt-or-le}
 use Rattle.buffers.specs.Painted.{painted}
@@ -41,11 +40,11 @@ next-from w at k d h = let e : k + 1 - at ≡ k - at + 1 = omega arith in rw e (
 pub fill-positive : (n d : ℕ) → n * d ≡ 32 → 0 < d
 fill-positive n d e =
     elim (lt-or-le 0 d) [
-      inl h ↦ h
-    | inr h ↦
-      let z : d ≡ 0 = omega arith in
-      let y : n * d ≡ 0 = rw z (mul-zero n) in
-      omega arith
+      | inl h ↦ h
+      | inr h ↦
+          let z : d ≡ 0 = omega arith in
+          let y : n * d ≡ 0 = rw z (mul-zero n) in
+          omega arith
     ]
 
 pub fill-most : (n d : ℕ) → n * d ≡ 32 → n ≤ 32
