@@ -36,7 +36,8 @@ pub fn display(
     video: &[u32],
 )
     requires { ⌜ Raster s at (now video) (now out) × (s .vds .0 ≤ y .0) × (y .0 < s .vde .0) ⌝ }
-    ensures { λ _. ⌜ now (out .exit) ≡ painted (now (out .entry)) (at + s .ds .0) (at + s .de .0) (from at (displayInk s (now (table .entry)) (now (video .entry)) (y .0))) ⌝ }
+    ensures { λ _. ⌜ now (out .exit) ≡ painted (now (out .entry)) (at + s .ds .0) (at + s .de .0)
+        (from at (displayInk s (now (table .entry)) (now (video .entry)) (y .0))) ⌝ }
 {
     let first = first_word(s, y);
     let last = first + raster_words(s);

@@ -39,7 +39,8 @@ fn pens(g: Registers) -> [u16; 4]
 
 pub fn paint_frame(out: &mut [u16], g: Registers, s: Setting, video: &[u32], cursor: &[u32])
     requires { ⌜ Lent s (cells s) (now video) (now cursor) (now out) ⌝ }
-    ensures { λ _. ⌜ now (out .exit) ≡ painted (now (out .entry)) 0 (cells s) (frameCell g s (now (video .entry)) (now (cursor .entry))) ⌝ }
+    ensures { λ _. ⌜ now (out .exit) ≡ painted (now (out .entry)) 0 (cells s)
+        (frameCell g s (now (video .entry)) (now (cursor .entry))) ⌝ }
 {
     let table = shades(g, s.depth);
     let inks = pens(g);
@@ -55,7 +56,8 @@ pub fn paint_raster(
     cursor: &[u32],
 )
     requires { ⌜ Lent s (s .n .0) (now video) (now cursor) (now out) ⌝ }
-    ensures { λ _. ⌜ now (out .exit) ≡ painted (now (out .entry)) 0 (s .n .0) (rasterCell g s (now (video .entry)) (now (cursor .entry)) (y .0)) ⌝ }
+    ensures { λ _. ⌜ now (out .exit) ≡ painted (now (out .entry)) 0 (s .n .0)
+        (rasterCell g s (now (video .entry)) (now (cursor .entry)) (y .0)) ⌝ }
 {
     let table = shades(g, s.depth);
     let inks = pens(g);

@@ -37,7 +37,8 @@ pub fn judged_frame(
 ) -> Answer
     requires { ⌜ Accepted s ⌝ }
     ensures { λ r. ⌜ (told r ≡ judged (frameTable s (now (video .entry)) (now (cursor .entry)) (length (now (out .entry)))) tt)
-        × (now (out .exit) ≡ unlessRefused (told r) (now (out .entry)) (painted (now (out .entry)) 0 (cells s) (frameCell g s (now (video .entry)) (now (cursor .entry))))) ⌝ }
+        × (now (out .exit) ≡ unlessRefused (told r) (now (out .entry)) (painted (now (out .entry)) 0 (cells s)
+        (frameCell g s (now (video .entry)) (now (cursor .entry))))) ⌝ }
 {
     if words_wrong(s, video, cursor) {
         return Answer::Refused(Refusal::WordCount);
@@ -59,7 +60,8 @@ pub fn judged_raster(
 ) -> Answer
     requires { ⌜ Accepted s ⌝ }
     ensures { λ r. ⌜ (told r ≡ judged (rasterTable s (now (video .entry)) (now (cursor .entry)) (y .0) (length (now (out .entry)))) tt)
-        × (now (out .exit) ≡ unlessRefused (told r) (now (out .entry)) (painted (now (out .entry)) 0 (s .n .0) (rasterCell g s (now (video .entry)) (now (cursor .entry)) (y .0)))) ⌝ }
+        × (now (out .exit) ≡ unlessRefused (told r) (now (out .entry)) (painted (now (out .entry)) 0 (s .n .0)
+        (rasterCell g s (now (video .entry)) (now (cursor .entry)) (y .0)))) ⌝ }
 {
     if words_wrong(s, video, cursor) {
         return Answer::Refused(Refusal::WordCount);

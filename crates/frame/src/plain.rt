@@ -32,7 +32,8 @@ fn middle(
     video: &[u32],
 )
     requires { ⌜ Raster s at (now video) (now out) × (s .vbs .0 ≤ y .0) × (y .0 < s .vbe .0) ⌝ }
-    ensures { λ _. ⌜ now (out .exit) ≡ painted (now (out .entry)) (at + s .bs .0) (at + s .be .0) (from at (plainInk s (now (pens .entry)) (now (table .entry)) (now (video .entry)) (y .0))) ⌝ }
+    ensures { λ _. ⌜ now (out .exit) ≡ painted (now (out .entry)) (at + s .bs .0) (at + s .be .0)
+        (from at (plainInk s (now (pens .entry)) (now (table .entry)) (now (video .entry)) (y .0))) ⌝ }
 {
     let bs = at + wide(s.bs);
     let be = at + wide(s.be);
@@ -56,7 +57,8 @@ pub fn plain(
     video: &[u32],
 )
     requires { ⌜ Raster s at (now video) (now out) ⌝ }
-    ensures { λ _. ⌜ now (out .exit) ≡ painted (now (out .entry)) at (at + s .n .0) (from at (plainInk s (now (pens .entry)) (now (table .entry)) (now (video .entry)) (y .0))) ⌝ }
+    ensures { λ _. ⌜ now (out .exit) ≡ painted (now (out .entry)) at (at + s .n .0)
+        (from at (plainInk s (now (pens .entry)) (now (table .entry)) (now (video .entry)) (y .0))) ⌝ }
 {
     let hs = at + wide(s.hs);
     let n = at + wide(s.n);

@@ -21,7 +21,8 @@ pub fn row(
     cursor: &[u32],
 )
     requires { ⌜ Lent s (at + s .n .0) (now video) (now cursor) (now out) ⌝ }
-    ensures { λ _. ⌜ now (out .exit) ≡ painted (now (out .entry)) at (at + s .n .0) (from at (ink s (now (pens .entry)) (now (table .entry)) (now (video .entry)) (now (cursor .entry)) (y .0))) ⌝ }
+    ensures { λ _. ⌜ now (out .exit) ≡ painted (now (out .entry)) at (at + s .n .0)
+        (from at (ink s (now (pens .entry)) (now (table .entry)) (now (video .entry)) (now (cursor .entry)) (y .0))) ⌝ }
 {
     plain(out, at, s, y, pens, table, video);
     cover(out, at, s, y, pens, cursor);
@@ -36,7 +37,8 @@ pub fn rows(
     cursor: &[u32],
 )
     requires { ⌜ Lent s (s .n .0 * s .v .0) (now video) (now cursor) (now out) ⌝ }
-    ensures { λ _. ⌜ now (out .exit) ≡ painted (now (out .entry)) 0 (s .n .0 * s .v .0) (frameInk s (now (pens .entry)) (now (table .entry)) (now (video .entry)) (now (cursor .entry))) ⌝ }
+    ensures { λ _. ⌜ now (out .exit) ≡ painted (now (out .entry)) 0 (s .n .0 * s .v .0)
+        (frameInk s (now (pens .entry)) (now (table .entry)) (now (video .entry)) (now (cursor .entry))) ⌝ }
 {
     let n = wide(s.n);
     let mut at = 0;

@@ -32,16 +32,16 @@ same-length-3 c = search needs
 returns-3 : tie.Need-returns-3
 returns-3 c = rw (c .before .before .before .before .if3 .taken) (c .before .before .words3 .ensures)
 
-words-requires-4 : tie.Need-words-requires-4
-words-requires-4 c κs = let e = depth-one (c .before .before .before .before .before .before .pre .1) (c .before .before .before .if1 .left) (c .before .before .if2 .left) (c .before .if3 .left) in
-    (rw e at (c .before .before .before .before .before .before .pre .0), omega arith, omega arith, refl)
+bit-words-requires : tie.Need-bit-words-requires
+bit-words-requires c κs =
+    rw (depth-one (c .before .before .before .before .before .before .pre .1) (c .before .before .before .if1 .left) (c .before .before .if2 .left) (c .before .if3 .left)) at (c .before .before .before .before .before .before .pre .0)
 
 same-length-4 : tie.Need-same-length-4
 same-length-4 c = search needs
 
 returns-4 : tie.Need-returns-4
 returns-4 c = let e = depth-one (c .before .before .before .before .before .before .before .before .before .pre .1) (c .before .before .before .before .before .before .if1 .left) (c .before .before .before .before .before .if2 .left) (c .before .before .before .before .if3 .left) in
-    rw e (c .before .before .words4 .ensures)
+    rw e (c .before .before .bit-words .ensures)
 
 pub shown-spec : {M : Type 1} → statement M
 shown-spec =
@@ -56,6 +56,6 @@ shown-spec =
     words-requires-3
     same-length-3
     returns-3
-    words-requires-4
+    bit-words-requires
     same-length-4
     returns-4)
