@@ -51,8 +51,10 @@ fn words(
     d: u32,
     table: &[u16; 256],
 )
-    requires { ⌜ (at + length (now video) * (chunks * count) ≤ length (now out)) × (count ≤ 8) × (d ≤ 8) × (chunks * count * d ≡ 32) ⌝ }
-    ensures { λ _. ⌜ now (out .exit) ≡ painted (now (out .entry)) at (at + length (now (video .entry)) * (chunks * count)) (from at (wordsInk (now (table .entry)) (now (video .entry)) d)) ⌝ }
+    requires { ⌜ (at + length (now video) * (chunks * count) ≤ length (now out)) × (count ≤ 8) × (d ≤ 8)
+        × (chunks * count * d ≡ 32) ⌝ }
+    ensures { λ _. ⌜ now (out .exit) ≡ painted (now (out .entry)) at
+        (at + length (now (video .entry)) * (chunks * count)) (from at (wordsInk (now (table .entry)) (now (video .entry)) d)) ⌝ }
 {
     let mut k = at;
     let mut q = 0;
