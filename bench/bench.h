@@ -1,0 +1,55 @@
+// What main.c measures: ours by the calls of the library, and the baselines.
+// A slice is a pointer and its length in elements.
+#include <stddef.h>
+#include <stdint.h>
+
+// The proved library; 0 is success.
+#define RECORD const uint32_t *values, size_t, const uint8_t *written, size_t
+uint64_t vom_load(uint32_t *values, size_t, uint8_t *written, size_t, const uint32_t *words, size_t);
+uint64_t vom_check(RECORD, uint32_t *setting, size_t);
+uint64_t vom_frame(RECORD, const uint32_t *video, size_t, const uint32_t *cursor, size_t, uint16_t *cells, size_t);
+uint64_t vom_raster(RECORD, const uint32_t *video, size_t, const uint32_t *cursor, size_t, uint16_t y, uint16_t *cells, size_t);
+uint64_t vom_marks(RECORD, const uint32_t *video, size_t, const uint32_t *cursor, size_t, uint8_t threshold, uint64_t *count, size_t);
+uint64_t vom_sound(RECORD, const uint32_t *words, size_t, uint32_t counter, int16_t *out, size_t, uint32_t *after, size_t);
+uint64_t vom_copy(const uint8_t *file, size_t, uint32_t *words, size_t);
+uint64_t vom_write(const uint32_t *registers, size_t, const uint32_t *video, size_t, const uint32_t *cursor, size_t,
+                   const uint32_t *sound, size_t, uint8_t *out, size_t, uint64_t *length, size_t);
+
+// A picture as the baselines get it: judged, with its numbers in the order of vom_check's answer, and its 13-bit colours.
+// Ours starts from the record each time and judges it, which the baselines are spared.
+struct picture {
+    uint32_t n, hs, bs, ds, de, be, cx;
+    uint32_t v, vs, vbs, vds, vde, vbe, vcs, vce;
+    uint32_t depth, display, border, cursor, video_words, cursor_words;
+    uint16_t palette[16], border_colour, pens[3];
+    const uint32_t *video, *shape;
+};
+
+// The colour of a pixel, from the palette: at depth 8 four of its bits stand in the colour.
+static inline uint16_t colour(const struct picture *p, uint32_t pixel) {
+    if (p->depth < 8) return p->palette[pixel];
+    return (p->palette[pixel & 15] & 0x1737) | (pixel >> 7 & 1) << 11 | (pixel >> 5 & 3) << 6 | (pixel >> 4 & 1) << 3;
+}
+
+static inline uint32_t grey(uint16_t colour) { return 17 * ((colour & 15) + (colour >> 4 & 15) + (colour >> 8 & 15)) / 3; }
+
+// Each baseline is compiled once for each compiler, under that compiler's name.
+#define JOIN(a, b) a##_##b
+#define NAMED(a, b) JOIN(a, b)
+#define BY(name) NAMED(name, COMPILER)
+
+void cells_gcc(const struct picture *, uint16_t *out);
+void stretches_gcc(const struct picture *, uint16_t *out);
+void stretches_clang(const struct picture *, uint16_t *out);
+void bytes_gcc(const struct picture *, uint16_t *out);
+void bytes_clang(const struct picture *, uint16_t *out);
+void stretches_rust(const struct picture *, uint16_t *out);
+uint64_t count_gcc(const struct picture *, uint32_t threshold);
+
+uint32_t sound_gcc(const uint8_t stereo[8], const uint32_t *words, size_t, uint32_t counter, int16_t *out);
+uint32_t sound_clang(const uint8_t stereo[8], const uint32_t *words, size_t, uint32_t counter, int16_t *out);
+
+void copy_gcc(const uint8_t *file, size_t words, uint32_t *out);
+void copy_clang(const uint8_t *file, size_t words, uint32_t *out);
+void put_gcc(const uint32_t *words, size_t, uint8_t *out);
+void put_clang(const uint32_t *words, size_t, uint8_t *out);

@@ -1,0 +1,55 @@
+// The fastest C we know: as stretches.c, but the table holds the cells of all pixels of a byte, and they are copied at once.
+#include "bench.h"
+#include <string.h>
+
+static void fill(uint16_t *restrict out, uint32_t from, uint32_t to, uint16_t cell) {
+    for (uint32_t x = from; x < to; x++) out[x] = cell;
+}
+
+// `per` cells for each byte; a literal where this is called.
+static inline void words(uint16_t *restrict out, const uint32_t *restrict video, uint32_t count, uint32_t per,
+                         const uint16_t *restrict table) {
+    for (uint32_t q = 0; q < count; q++, out += 4 * per)
+        for (uint32_t b = 0; b < 4; b++) memcpy(out + b * per, table + (video[q] >> 8 * b & 255) * per, 2 * per);
+}
+
+static void shown(uint16_t *restrict out, const uint32_t *restrict video, uint32_t count, uint32_t d,
+                  const uint16_t *restrict table) {
+    if (d == 8) words(out, video, count, 1, table);
+    else if (d == 4) words(out, video, count, 2, table);
+    else if (d == 2) words(out, video, count, 4, table);
+    else words(out, video, count, 8, table);
+}
+
+static void cover(const struct picture *restrict p, uint32_t y, uint16_t *restrict out) {
+    if (!p->cursor || y < p->vcs || y >= p->vce || y < p->vbs || y >= p->vbe) return;
+    const uint32_t *restrict shape = p->shape + 2 * (y - p->vcs);
+    for (uint32_t i = 0; i < 32; i++) {
+        uint32_t x = p->cx + i, pair = shape[i / 16] >> 2 * (i % 16) & 3;
+        if (pair && p->bs <= x && x < p->be) out[x] = 6 * 8192 + p->pens[pair - 1];
+    }
+}
+
+void BY(bytes)(const struct picture *restrict p, uint16_t *restrict out) {
+    uint16_t table[256 * 8], border = 4 * 8192 + p->border_colour;
+    uint32_t d = p->depth, per = 8 / d;
+    for (uint32_t b = 0; b < 256; b++)
+        for (uint32_t j = 0; j < per; j++) table[b * per + j] = 5 * 8192 + colour(p, b >> j * d & ((1u << d) - 1));
+    uint32_t count = (p->de - p->ds) * d / 32;
+    const uint32_t *restrict video = p->video;
+    for (uint32_t y = 0; y < p->v; y++, out += p->n) {
+        uint16_t empty = y < p->vs ? 2 * 8192 : 0;
+        fill(out, 0, p->hs, empty + 8192);
+        if (p->vbs <= y && y < p->vbe) {
+            fill(out, p->hs, p->bs, empty);
+            if (p->vds <= y && y < p->vde) {
+                fill(out, p->bs, p->ds, border);
+                shown(out + p->ds, video, count, d, table);
+                video += count;
+                fill(out, p->de, p->be, border);
+            } else fill(out, p->bs, p->be, border);
+            fill(out, p->be, p->n, empty);
+        } else fill(out, p->hs, p->n, empty);
+        cover(p, y, out);
+    }
+}

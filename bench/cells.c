@@ -1,0 +1,37 @@
+// A frame and a mark count, cell by cell from the rule.
+#include "bench.h"
+
+static int within(uint32_t from, uint32_t at, uint32_t to) { return from <= at && at < to; }
+
+static uint32_t pixel(const struct picture *p, uint32_t x, uint32_t y) {
+    uint32_t bit = ((y - p->vds) * (p->de - p->ds) + (x - p->ds)) * p->depth;
+    return p->video[bit / 32] >> bit % 32 & ((1u << p->depth) - 1);
+}
+
+static uint16_t cell(const struct picture *p, uint32_t x, uint32_t y) {
+    if (x < p->hs || y < p->vs) return ((x < p->hs) + 2 * (y < p->vs)) * 8192;
+    int shown = p->display && within(p->ds, x, p->de) && within(p->vds, y, p->vde);
+    int border = p->border && within(p->bs, x, p->be) && within(p->vbs, y, p->vbe);
+    if (!shown && !border) return 0;
+    if (p->cursor && within(p->vcs, y, p->vce) && within(p->cx, x, p->cx + 32)) {
+        uint32_t i = x - p->cx;
+        uint32_t pair = p->shape[2 * (y - p->vcs) + i / 16] >> 2 * (i % 16) & 3;
+        if (pair) return 6 * 8192 + p->pens[pair - 1];
+    }
+    return shown ? 5 * 8192 + colour(p, pixel(p, x, y)) : 4 * 8192 + p->border_colour;
+}
+
+void BY(cells)(const struct picture *p, uint16_t *out) {
+    for (uint32_t y = 0; y < p->v; y++)
+        for (uint32_t x = 0; x < p->n; x++) out[y * p->n + x] = cell(p, x, y);
+}
+
+uint64_t BY(count)(const struct picture *p, uint32_t threshold) {
+    uint64_t marks = 0;
+    for (uint32_t y = 0; y < p->v; y++)
+        for (uint32_t x = 0; x < p->n; x++) {
+            uint16_t c = cell(p, x, y);
+            marks += c / 8192 == 5 && grey(c) >= threshold;
+        }
+    return marks;
+}

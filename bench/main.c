@@ -1,0 +1,304 @@
+// Times ours and the baselines on the same inputs and prints one table: how many times as fast ours is.
+// main PRINTER PLATE: PRINTER is our program, PLATE a file that is written for it.
+#include "bench.h"
+#include <fcntl.h>
+#include <spawn.h>
+#include <stdio.h>
+#include <stdlib.h>
+#include <string.h>
+#include <sys/wait.h>
+#include <time.h>
+#include <unistd.h>
+
+extern char **environ;
+
+enum { LARGEST = 2048 * 1024, PLATE = 4194304, PLATE_WORDS = PLATE / 4 - 4, SOUNDS = 16384 };
+
+static uint32_t values[64], noise[PLATE_WORDS], words_out[PLATE_WORDS], words_there[PLATE_WORDS];
+static uint8_t written[64], file[PLATE], file_out[PLATE], file_there[PLATE];
+static uint16_t cells[LARGEST], cells_there[LARGEST];
+static int16_t sound_out[SOUNDS * 8], sound_there[SOUNDS * 8];
+static uint8_t stereo[8];
+static uint32_t after;
+static uint64_t marks, length;
+static struct picture pic;
+
+#define GIVEN values, 64, written, 64
+
+static void die(const char *what) {
+    fprintf(stderr, "bench: %s\n", what);
+    exit(1);
+}
+
+// ---- inputs
+
+static uint32_t registers[128];
+static size_t register_count;
+
+static void put(uint32_t address, uint32_t data) { registers[register_count++] = address << 24 | data; }
+
+static void load(void) {
+    memset(values, 0, sizeof values);
+    memset(written, 0, sizeof written);
+    if (vom_load(GIVEN, registers, register_count)) die("the registers were refused");
+}
+
+// A geometry by its positions: N HS BS DS DE BE CX, then V VS VBS VDS VDE VBE VCS VCE.
+static void set(uint32_t depth, const uint32_t x[7], const uint32_t y[8]) {
+    static const uint32_t offsets[4] = {19, 11, 7, 5};
+    uint32_t choice = depth == 8 ? 3 : depth / 2, k = offsets[choice];
+    register_count = 0;
+    put(0xE0, 3 | choice << 2);
+    for (uint32_t i = 0; i < 16; i++) put(4 * i, (i * 0x1357 + 0x2A9) & 0x1FFF);
+    put(0x40, 0xF42);
+    for (uint32_t i = 0; i < 3; i++) put(0x44 + 4 * i, 0x1111 * (i + 1) & 0x1FFF);
+    put(0x80, (x[0] - 2) / 2 << 14);
+    put(0x84, (x[1] - 2) / 2 << 14);
+    put(0x88, (x[2] - 1) / 2 << 14);
+    put(0x8C, (x[3] - k) / 2 << 14);
+    put(0x90, (x[4] - k) / 2 << 14);
+    put(0x94, (x[5] - 1) / 2 << 14);
+    put(0x98, (x[6] - 6) << 13);
+    for (uint32_t i = 0; i < 8; i++) put(0xA0 + 4 * i, (y[i] - 1) << 14);
+    load();
+    if (vom_check(GIVEN, &pic.n, 21)) die("the setting was refused");
+    for (uint32_t i = 0; i < 16; i++) pic.palette[i] = values[i];
+    pic.border_colour = values[16];
+    for (uint32_t i = 0; i < 3; i++) pic.pens[i] = values[17 + i];
+    pic.video = noise;
+    pic.shape = noise + 1000;
+}
+
+static void usual(uint32_t depth) {
+    set(depth, (uint32_t[]){1024, 72, 127, 201, 841, 941, 500}, (uint32_t[]){312, 3, 20, 30, 286, 300, 100, 132});
+}
+
+static void largest(uint32_t depth) {
+    set(depth, (uint32_t[]){2048, 4, 9, 25, 2041, 2047, 1000}, (uint32_t[]){1024, 1, 1, 2, 1023, 1024, 500, 532});
+}
+
+static void smallest(uint32_t depth) {
+    set(depth, (uint32_t[]){1024, 72, 127, 201, 841, 941, 500}, (uint32_t[]){1, 1, 1, 1, 1, 1, 1, 1});
+}
+
+// ---- what is timed
+
+#define FRAME pic.video, pic.video_words, pic.shape, pic.cursor_words
+static void ours_frame(void) { if (vom_frame(GIVEN, FRAME, cells, LARGEST)) die("the frame was refused"); }
+static void ours_marks(void) { if (vom_marks(GIVEN, FRAME, 128, &marks, 1)) die("the marks were refused"); }
+static void ours_sound(void) { if (vom_sound(GIVEN, noise, SOUNDS, 5, sound_out, SOUNDS * 8, &after, 1)) die("sound was refused"); }
+static void ours_copy(void) { if (vom_copy(file, PLATE, words_out, PLATE_WORDS)) die("the copy was refused"); }
+static void ours_write(void) {
+    if (vom_write(noise, 1000, noise + 1000, 900000, noise + 901000, 100000, noise + 1001000, PLATE_WORDS - 1001000, file_out,
+                  PLATE, &length, 1)) die("the plate was refused");
+}
+
+static void per_cell(void) { cells_gcc(&pic, cells_there); }
+static void tuned_gcc(void) { stretches_gcc(&pic, cells_there); }
+static void by_bytes_gcc(void) { bytes_gcc(&pic, cells_there); }
+static void rust(void) { stretches_rust(&pic, cells_there); }
+static void set_cells(void) { memset(cells_there, 1, 2 * pic.n * pic.v); }
+static void count_cells(void) { marks = count_gcc(&pic, 128); }
+static void loop_sound_gcc(void) { after = sound_gcc(stereo, noise, SOUNDS, 5, sound_there); }
+static void loop_copy_gcc(void) { copy_gcc(file, PLATE_WORDS, words_there); }
+static void loop_put_gcc(void) { put_gcc(noise, PLATE_WORDS, file_there); }
+static void mem_copy(void) { memcpy(words_there, file, 4 * PLATE_WORDS); }
+static void mem_put(void) { memcpy(file_there, noise, 4 * PLATE_WORDS); }
+#ifdef CLANG
+static void tuned_clang(void) { stretches_clang(&pic, cells_there); }
+static void by_bytes_clang(void) { bytes_clang(&pic, cells_there); }
+static void loop_sound_clang(void) { after = sound_clang(stereo, noise, SOUNDS, 5, sound_there); }
+static void loop_copy_clang(void) { copy_clang(file, PLATE_WORDS, words_there); }
+static void loop_put_clang(void) { put_clang(noise, PLATE_WORDS, file_there); }
+#else
+#define tuned_clang NULL
+#define by_bytes_clang NULL
+#define loop_sound_clang NULL
+#define loop_copy_clang NULL
+#define loop_put_clang NULL
+#endif
+
+typedef void work(void);
+
+static double seconds(void) {
+    struct timespec t;
+    clock_gettime(CLOCK_MONOTONIC, &t);
+    return t.tv_sec + t.tv_nsec * 1e-9;
+}
+
+// The best time of each, in seconds: all take turns, so that what else the machine does falls on all alike.
+static void race(work *const *runs, double *best, int count, int rounds) {
+    int times[8];
+    for (int i = 0; i < count; i++) {
+        if (!runs[i]) continue;
+        runs[i]();
+        double t = seconds();
+        runs[i]();
+        t = seconds() - t;
+        times[i] = t < 50e-6 ? 50e-6 / t + 1 : 1;
+        best[i] = t;
+    }
+    for (int r = 0; r < rounds; r++)
+        for (int i = 0; i < count; i++) {
+            if (!runs[i]) continue;
+            double t = seconds();
+            for (int k = 0; k < times[i]; k++) runs[i]();
+            t = (seconds() - t) / times[i];
+            if (t < best[i]) best[i] = t;
+        }
+}
+
+static void row(const char *name, work *const *runs, int count, int rounds) {
+    double best[8];
+    race(runs, best, count, rounds);
+    printf("%-26s %9.1f", name, best[0] * 1e6);
+    for (int i = 1; i < count; i++)
+        if (runs[i]) printf(" %9.2f", best[i] / best[0]);
+        else printf(" %9s", "-");
+    printf("\n");
+}
+
+// ---- the baselines are right
+
+static void same_frame(work *other, const char *name) {
+    if (!other) return;
+    memset(cells_there, 0xAA, sizeof cells_there);
+    other();
+    if (memcmp(cells, cells_there, sizeof cells)) die(name);
+}
+
+static void same_frames(void) {
+    memset(cells, 0xAA, sizeof cells);
+    ours_frame();
+    same_frame(per_cell, "the cell by cell frame differs");
+    same_frame(tuned_gcc, "the frame of stretches by gcc differs");
+    same_frame(tuned_clang, "the frame of stretches by clang differs");
+    same_frame(by_bytes_gcc, "the frame of bytes by gcc differs");
+    same_frame(by_bytes_clang, "the frame of bytes by clang differs");
+    same_frame(rust, "the Rust frame differs");
+    ours_marks();
+    uint64_t ours = marks;
+    count_cells();
+    if (marks != ours) die("the mark counts differ");
+}
+
+static void same_sound(work *other) {
+    if (!other) return;
+    ours_sound();
+    uint32_t ours = after;
+    other();
+    if (ours != after || memcmp(sound_out, sound_there, sizeof sound_out)) die("the sounds differ");
+}
+
+static void same_copy(work *other) {
+    if (!other) return;
+    memset(words_there, 0, sizeof words_there);
+    other();
+    if (memcmp(words_out, words_there, sizeof words_out)) die("the copies differ");
+}
+
+static void same_put(work *other) {
+    if (!other) return;
+    memset(file_there, 0, sizeof file_there);
+    other();
+    if (memcmp(file_out, file_there, 4 * PLATE_WORDS)) die("the written plates differ");
+}
+
+// ---- the printer, as a process
+
+static void print_plate(const char *printer, const char *plate) {
+    // the largest frame, and a cursor that parts every raster into many runs
+    static uint32_t stripes[2046];
+    for (size_t i = 0; i < 2046; i++) stripes[i] = 0x11111111;
+    set(1, (uint32_t[]){2048, 4, 9, 25, 2041, 2047, 1000}, (uint32_t[]){1024, 1, 1, 2, 228, 1024, 1, 1024});
+    size_t rest = 65536 / 4 - 4 - register_count - pic.video_words - pic.cursor_words;
+    if (vom_write(registers, register_count, noise, pic.video_words, stripes, pic.cursor_words, noise, rest, file_out, PLATE,
+                  &length, 1) || length != 65536) die("the printer's plate was refused");
+    int out = open(plate, O_WRONLY | O_CREAT | O_TRUNC, 0644);
+    if (out < 0 || write(out, file_out, length) != (ssize_t)length || close(out)) die("the printer's plate was not written");
+    posix_spawn_file_actions_t actions;
+    posix_spawn_file_actions_init(&actions);
+    posix_spawn_file_actions_addopen(&actions, 0, plate, O_RDONLY, 0);
+    posix_spawn_file_actions_addopen(&actions, 1, "/dev/null", O_WRONLY, 0);
+    double best = 1e9;
+    for (int r = 0; r < 60; r++) {
+        char *words[] = {(char *)printer, NULL};
+        pid_t child;
+        int status;
+        double t = seconds();
+        if (posix_spawn(&child, printer, &actions, NULL, words, environ) || waitpid(child, &status, 0) < 0 || status)
+            die("the printer did not run");
+        t = seconds() - t;
+        if (t < best) best = t;
+    }
+    printf("\nthe printer on a plate of 65,536 bytes, 2048 x 1024, a cursor in every raster: %.1f ms, its start included\n", best * 1e3);
+}
+
+int main(int count, char **words) {
+    if (count != 3) die("usage: main PRINTER PLATE");
+    uint32_t x = 1986;
+    for (size_t i = 0; i < PLATE_WORDS; i++) {
+        x ^= x << 13, x ^= x >> 17, x ^= x << 5;
+        noise[i] = x;
+    }
+    char name[64];
+    static const uint32_t depths[4] = {1, 2, 4, 8};
+
+    printf("best times in microseconds, and how many times as fast ours is as each other\n\n");
+    printf("%-26s %9s %9s %9s %9s %9s %9s %9s %9s\n", "frame", "ours us", "per cell", "tuned", "tuned", "Rust", "memset", "bytes",
+           "bytes");
+    printf("%-26s %9s %9s %9s %9s %9s %9s %9s %9s\n", "", "", "gcc", "gcc", "clang", "", "", "gcc", "clang");
+    work *const frames[] = {ours_frame, per_cell, tuned_gcc, tuned_clang, rust, set_cells, by_bytes_gcc, by_bytes_clang};
+    for (int i = 0; i < 4; i++) {
+        usual(depths[i]);
+        same_frames();
+        sprintf(name, "1024 x 312, depth %u", depths[i]);
+        row(name, frames, 8, 400);
+    }
+    for (int i = 0; i < 4; i++) {
+        largest(depths[i]);
+        same_frames();
+        sprintf(name, "2048 x 1024, depth %u", depths[i]);
+        row(name, frames, 8, 60);
+    }
+    for (int i = 0; i < 4; i++) {
+        smallest(depths[i]);
+        same_frames();
+        sprintf(name, "1024 x 1, depth %u", depths[i]);
+        row(name, frames, 8, 400);
+    }
+
+    printf("\n%-26s %9s %9s %9s\n", "marks", "ours us", "our frame", "per cell");
+    work *const counts[] = {ours_marks, ours_frame, count_cells};
+    for (int i = 0; i < 4; i++) {
+        usual(depths[i]);
+        sprintf(name, "1024 x 312, depth %u", depths[i]);
+        row(name, counts, 3, 400);
+    }
+
+    register_count = 0;
+    for (uint32_t i = 0; i < 8; i++) put(0x60 + 4 * i, stereo[(i + 7) % 8] = i < 7 ? i + 1 : 4);
+    put(0xC0, 99);
+    load();
+    same_sound(loop_sound_gcc);
+    same_sound(loop_sound_clang);
+    printf("\n%-26s %9s %9s %9s\n", "sound", "ours us", "loop gcc", "clang");
+    row("65,536 bytes", (work *const[]){ours_sound, loop_sound_gcc, loop_sound_clang}, 3, 400);
+
+    ours_write();
+    if (length != PLATE) die("the plate has another length");
+    memcpy(file, file_out, PLATE);
+    ours_copy();
+    if (memcmp(words_out, noise, sizeof noise)) die("the plate did not survive the round trip");
+    same_copy(loop_copy_gcc);
+    same_copy(loop_copy_clang);
+    same_copy(mem_copy);
+    same_put(loop_put_gcc);
+    same_put(loop_put_clang);
+    same_put(mem_put);
+    printf("\n%-26s %9s %9s %9s %9s\n", "plates of 4,194,304 bytes", "ours us", "loop gcc", "clang", "memcpy");
+    row("copy out", (work *const[]){ours_copy, loop_copy_gcc, loop_copy_clang, mem_copy}, 4, 200);
+    row("write", (work *const[]){ours_write, loop_put_gcc, loop_put_clang, mem_put}, 4, 200);
+
+    print_plate(words[1], words[2]);
+}

@@ -1,0 +1,64 @@
+// A frame by stretches, as ours is painted: no cell twice but for the cursor's, the display by whole words through a
+// table of cells, depth 1 by a choice of two.
+#include "bench.h"
+
+static void fill(uint16_t *restrict out, uint32_t from, uint32_t to, uint16_t cell) {
+    for (uint32_t x = from; x < to; x++) out[x] = cell;
+}
+
+// The pixels of a raster's words, d bits each; d is a literal where this is called.
+static inline void words(uint16_t *restrict out, const uint32_t *restrict video, uint32_t count, uint32_t d,
+                         const uint16_t *restrict table) {
+    for (uint32_t q = 0; q < count; q++) {
+        uint32_t w = video[q];
+        for (uint32_t j = 0; j < 32 / d; j++) {
+            out[j] = table[w & ((1u << d) - 1)];
+            w >>= d;
+        }
+        out += 32 / d;
+    }
+}
+
+static void bit_words(uint16_t *restrict out, const uint32_t *restrict video, uint32_t count, uint16_t zero, uint16_t one) {
+    for (uint32_t q = 0; q < count; q++, out += 32)
+        for (uint32_t j = 0; j < 32; j++) out[j] = video[q] >> j & 1 ? one : zero;
+}
+
+static void shown(uint16_t *restrict out, const uint32_t *restrict video, uint32_t count, uint32_t d,
+                  const uint16_t *restrict table) {
+    if (d == 8) words(out, video, count, 8, table);
+    else if (d == 4) words(out, video, count, 4, table);
+    else if (d == 2) words(out, video, count, 2, table);
+    else bit_words(out, video, count, table[0], table[1]);
+}
+
+static void cover(const struct picture *restrict p, uint32_t y, uint16_t *restrict out) {
+    if (!p->cursor || y < p->vcs || y >= p->vce || y < p->vbs || y >= p->vbe) return;
+    const uint32_t *restrict shape = p->shape + 2 * (y - p->vcs);
+    for (uint32_t i = 0; i < 32; i++) {
+        uint32_t x = p->cx + i, pair = shape[i / 16] >> 2 * (i % 16) & 3;
+        if (pair && p->bs <= x && x < p->be) out[x] = 6 * 8192 + p->pens[pair - 1];
+    }
+}
+
+void BY(stretches)(const struct picture *restrict p, uint16_t *restrict out) {
+    uint16_t table[256], border = 4 * 8192 + p->border_colour;
+    for (uint32_t i = 0; i < 1u << p->depth; i++) table[i] = 5 * 8192 + colour(p, i);
+    uint32_t count = (p->de - p->ds) * p->depth / 32;
+    const uint32_t *restrict video = p->video;
+    for (uint32_t y = 0; y < p->v; y++, out += p->n) {
+        uint16_t empty = y < p->vs ? 2 * 8192 : 0;
+        fill(out, 0, p->hs, empty + 8192);
+        if (p->vbs <= y && y < p->vbe) {
+            fill(out, p->hs, p->bs, empty);
+            if (p->vds <= y && y < p->vde) {
+                fill(out, p->bs, p->ds, border);
+                shown(out + p->ds, video, count, p->depth, table);
+                video += count;
+                fill(out, p->de, p->be, border);
+            } else fill(out, p->bs, p->be, border);
+            fill(out, p->be, p->n, empty);
+        } else fill(out, p->hs, p->n, empty);
+        cover(p, y, out);
+    }
+}
