@@ -14,10 +14,11 @@ extern char **environ;
 
 enum { LARGEST = 2048 * 1024, PLATE = 4194304, PLATE_WORDS = PLATE / 4 - 4, SOUNDS = 16384 };
 
-static uint32_t values[64], noise[PLATE_WORDS], words_out[PLATE_WORDS], words_there[PLATE_WORDS];
-static uint8_t written[64], file[PLATE], file_out[PLATE], file_there[PLATE];
-static uint16_t cells[LARGEST], cells_there[LARGEST];
-static int16_t sound_out[SOUNDS * 8], sound_there[SOUNDS * 8];
+// All write to the same places, and what ours wrote is kept to be compared.
+static uint32_t values[64], noise[PLATE_WORDS], words_out[PLATE_WORDS], words_kept[PLATE_WORDS];
+static uint8_t written[64], file[PLATE], file_out[PLATE], file_kept[PLATE];
+static uint16_t cells[LARGEST], cells_kept[LARGEST];
+static int16_t sound_out[SOUNDS * 8], sound_kept[SOUNDS * 8];
 static uint8_t stereo[8];
 static uint32_t after;
 static uint64_t marks, length;
@@ -93,23 +94,23 @@ static void ours_write(void) {
                   PLATE, &length, 1)) die("the plate was refused");
 }
 
-static void per_cell(void) { cells_gcc(&pic, cells_there); }
-static void tuned_gcc(void) { stretches_gcc(&pic, cells_there); }
-static void by_bytes_gcc(void) { bytes_gcc(&pic, cells_there); }
-static void rust(void) { stretches_rust(&pic, cells_there); }
-static void set_cells(void) { memset(cells_there, 1, 2 * pic.n * pic.v); }
+static void per_cell(void) { cells_gcc(&pic, cells); }
+static void tuned_gcc(void) { stretches_gcc(&pic, cells); }
+static void by_bytes_gcc(void) { bytes_gcc(&pic, cells); }
+static void rust(void) { stretches_rust(&pic, cells); }
+static void set_cells(void) { memset(cells, 1, 2 * pic.n * pic.v); }
 static void count_cells(void) { marks = count_gcc(&pic, 128); }
-static void loop_sound_gcc(void) { after = sound_gcc(stereo, noise, SOUNDS, 5, sound_there); }
-static void loop_copy_gcc(void) { copy_gcc(file, PLATE_WORDS, words_there); }
-static void loop_put_gcc(void) { put_gcc(noise, PLATE_WORDS, file_there); }
-static void mem_copy(void) { memcpy(words_there, file, 4 * PLATE_WORDS); }
-static void mem_put(void) { memcpy(file_there, noise, 4 * PLATE_WORDS); }
+static void loop_sound_gcc(void) { after = sound_gcc(stereo, noise, SOUNDS, 5, sound_out); }
+static void loop_copy_gcc(void) { copy_gcc(file, PLATE_WORDS, words_out); }
+static void loop_put_gcc(void) { put_gcc(noise, PLATE_WORDS, file_out); }
+static void mem_copy(void) { memcpy(words_out, file, 4 * PLATE_WORDS); }
+static void mem_put(void) { memcpy(file_out, noise, 4 * PLATE_WORDS); }
 #ifdef CLANG
-static void tuned_clang(void) { stretches_clang(&pic, cells_there); }
-static void by_bytes_clang(void) { bytes_clang(&pic, cells_there); }
-static void loop_sound_clang(void) { after = sound_clang(stereo, noise, SOUNDS, 5, sound_there); }
-static void loop_copy_clang(void) { copy_clang(file, PLATE_WORDS, words_there); }
-static void loop_put_clang(void) { put_clang(noise, PLATE_WORDS, file_there); }
+static void tuned_clang(void) { stretches_clang(&pic, cells); }
+static void by_bytes_clang(void) { bytes_clang(&pic, cells); }
+static void loop_sound_clang(void) { after = sound_clang(stereo, noise, SOUNDS, 5, sound_out); }
+static void loop_copy_clang(void) { copy_clang(file, PLATE_WORDS, words_out); }
+static void loop_put_clang(void) { put_clang(noise, PLATE_WORDS, file_out); }
 #else
 #define tuned_clang NULL
 #define by_bytes_clang NULL
@@ -162,14 +163,15 @@ static void row(const char *name, work *const *runs, int count, int rounds) {
 
 static void same_frame(work *other, const char *name) {
     if (!other) return;
-    memset(cells_there, 0xAA, sizeof cells_there);
+    memset(cells, 0xAA, sizeof cells);
     other();
-    if (memcmp(cells, cells_there, sizeof cells)) die(name);
+    if (memcmp(cells, cells_kept, sizeof cells)) die(name);
 }
 
 static void same_frames(void) {
     memset(cells, 0xAA, sizeof cells);
     ours_frame();
+    memcpy(cells_kept, cells, sizeof cells);
     same_frame(per_cell, "the cell by cell frame differs");
     same_frame(tuned_gcc, "the frame of stretches by gcc differs");
     same_frame(tuned_clang, "the frame of stretches by clang differs");
@@ -186,22 +188,24 @@ static void same_sound(work *other) {
     if (!other) return;
     ours_sound();
     uint32_t ours = after;
+    memcpy(sound_kept, sound_out, sizeof sound_out);
+    memset(sound_out, 0xAA, sizeof sound_out);
     other();
-    if (ours != after || memcmp(sound_out, sound_there, sizeof sound_out)) die("the sounds differ");
+    if (ours != after || memcmp(sound_out, sound_kept, sizeof sound_out)) die("the sounds differ");
 }
 
 static void same_copy(work *other) {
     if (!other) return;
-    memset(words_there, 0, sizeof words_there);
+    memset(words_out, 0, sizeof words_out);
     other();
-    if (memcmp(words_out, words_there, sizeof words_out)) die("the copies differ");
+    if (memcmp(words_out, words_kept, sizeof words_out)) die("the copies differ");
 }
 
 static void same_put(work *other) {
     if (!other) return;
-    memset(file_there, 0, sizeof file_there);
+    memset(file_out, 0, sizeof file_out);
     other();
-    if (memcmp(file_out, file_there, 4 * PLATE_WORDS)) die("the written plates differ");
+    if (memcmp(file_out, file_kept, 4 * PLATE_WORDS)) die("the written plates differ");
 }
 
 // ---- the printer, as a process
@@ -288,7 +292,9 @@ int main(int count, char **words) {
     ours_write();
     if (length != PLATE) die("the plate has another length");
     memcpy(file, file_out, PLATE);
+    memcpy(file_kept, file_out, PLATE);
     ours_copy();
+    memcpy(words_kept, words_out, sizeof words_out);
     if (memcmp(words_out, noise, sizeof noise)) die("the plate did not survive the round trip");
     same_copy(loop_copy_gcc);
     same_copy(loop_copy_clang);

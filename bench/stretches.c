@@ -19,9 +19,16 @@ static inline void words(uint16_t *restrict out, const uint32_t *restrict video,
     }
 }
 
+// A choice of two cells, sixteen at a time. Where gcc unrolls the inner loop it makes no vector code of it.
 static void bit_words(uint16_t *restrict out, const uint32_t *restrict video, uint32_t count, uint16_t zero, uint16_t one) {
-    for (uint32_t q = 0; q < count; q++, out += 32)
-        for (uint32_t j = 0; j < 32; j++) out[j] = video[q] >> j & 1 ? one : zero;
+    static const uint16_t bits[16] = {1, 2, 4, 8, 16, 32, 64, 128, 256, 512, 1024, 2048, 4096, 8192, 16384, 32768};
+    for (uint32_t q = 0; q < 2 * count; q++, out += 16) {
+        uint16_t half = video[q / 2] >> 16 * (q % 2);
+#ifndef __clang__
+#pragma GCC unroll 1
+#endif
+        for (uint32_t j = 0; j < 16; j++) out[j] = half & bits[j] ? one : zero;
+    }
 }
 
 static void shown(uint16_t *restrict out, const uint32_t *restrict video, uint32_t count, uint32_t d,
