@@ -2,6 +2,7 @@
 use crate::inks::paint_frame;
 use crate::inks::paint_raster;
 use crate::units::wide;
+use crate::words_wrong;
 use registers::record::Registers;
 use registers::refusal::Answer;
 use registers::refusal::Refusal;
@@ -12,13 +13,7 @@ ghost use lib.ListN.{length};
 ghost use Rattle.buffers.specs.Painted.{painted};
 ghost use Rattle.registers.proofs.Accepted.{Accepted};
 ghost use Rattle.registers.specs.Table.{told, judged, unlessRefused};
-ghost use Rattle.frame.specs.Frame.{wordsWrong, cells, frameCell, frameTable, rasterCell, rasterTable};
-
-fn words_wrong(s: Setting, video: &[u32], cursor: &[u32]) -> bool
-    ensures { λ r. ⌜ r ≡ wordsWrong s (now (video .entry)) (now (cursor .entry)) ⌝ }
-{
-    (video.len() as u64 != s.video_words()) | (cursor.len() as u64 != s.cursor_words())
-}
+ghost use Rattle.frame.specs.Frame.{cells, frameCell, frameTable, rasterCell, rasterTable};
 
 // How many cells a frame has.
 fn frame_cells(s: Setting) -> usize

@@ -4,11 +4,12 @@ use judged::judged_raster;
 use registers::check::Checked;
 use registers::record::Registers;
 use registers::refusal::Answer;
+use registers::setting::Setting;
 use registers::units::Rasters;
 ghost use mathlib.Core.Path.{_≡_};
 ghost use lib.ListN.{length};
 ghost use Rattle.registers.specs.Table.{told};
-ghost use Rattle.frame.specs.Frame.{frameTold, frameHeld, rasterTold, rasterHeld};
+ghost use Rattle.frame.specs.Frame.{wordsWrong, frameTold, frameHeld, rasterTold, rasterHeld};
 
 mod cursor;
 mod decode;
@@ -19,6 +20,13 @@ mod judged;
 mod plain;
 mod rows;
 mod units;
+
+// Whether the video or the cursor words are not as many as the setting needs: 11.
+pub fn words_wrong(s: Setting, video: &[u32], cursor: &[u32]) -> bool
+    ensures { λ r. ⌜ r ≡ wordsWrong s (now (video .entry)) (now (cursor .entry)) ⌝ }
+{
+    (video.len() as u64 != s.video_words()) | (cursor.len() as u64 != s.cursor_words())
+}
 
 // All N·V cells of a frame, raster after raster; the lent cells beyond are untouched. Refusals 3 to 9, 11, 13.
 pub fn frame(g: Registers, video: &[u32], cursor: &[u32], out: &mut [u16]) -> Answer

@@ -6,15 +6,8 @@ use crate::walk::in_words;
 use registers::record::Registers;
 use registers::setting::Setting;
 ghost use mathlib.Core.Path.{_≡_};
-ghost use Rattle.frame.specs.Frame.{wordsWrong};
 ghost use Rattle.marks.specs.Marks.{marksOf};
 ghost use Rattle.marks.specs.Bright.{Ready};
-
-pub fn words_wrong(s: Setting, video: &[u32], cursor: &[u32]) -> bool
-    ensures { λ r. ⌜ r ≡ wordsWrong s (now (video .entry)) (now (cursor .entry)) ⌝ }
-{
-    (video.len() as u64 != s.video_words()) | (cursor.len() as u64 != s.cursor_words())
-}
 
 pub fn count(g: Registers, s: Setting, video: &[u32], cursor: &[u32], threshold: u8) -> u32
     requires { ⌜ Ready s (now video) (now cursor) ⌝ }

@@ -8,7 +8,7 @@ mod walk;
 
 use crate::answer::Marks;
 use crate::count::count;
-use crate::count::words_wrong;
+use frame::words_wrong;
 use registers::check::Checked;
 use registers::record::Registers;
 use registers::refusal::Refusal;

@@ -30,7 +30,7 @@ fn judge(g: Registers, video: &[u32], cursor: &[u32]) -> Checked
     match g.check() {
         Checked::Refused(why) => Checked::Refused(why),
         Checked::Accepted(s) => {
-            if (video.len() as u64 != s.video_words()) | (cursor.len() as u64 != s.cursor_words()) {
+            if frame::words_wrong(s, video, cursor) {
                 return Checked::Refused(Refusal::WordCount);
             }
             Checked::Accepted(s)

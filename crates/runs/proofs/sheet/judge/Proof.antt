@@ -1,4 +1,5 @@
 use Rattle.runs.proofs.Sheets.{picture-refused, picture-wrong, picture-right}
+use mathlib.Core.Path.{sym, _∙_}
 use borrow.Author.Needs.{needs}
 use Rattle.runs.proofs.sheet.judge.Statement.{statement}
 use Rattle.runs.proofs.sheet.judge.Tie as tie
@@ -12,20 +13,17 @@ enum-known-why c = search needs
 enum-known-s : tie.Need-enum-known-s
 enum-known-s c = search needs
 
-video-words-requires : tie.Need-video-words-requires
-video-words-requires c κs = search needs
-
-cursor-words-requires : tie.Need-cursor-words-requires
-cursor-words-requires c κs = search needs
+words-wrong-requires : tie.Need-words-wrong-requires
+words-wrong-requires c κs = search needs
 
 returns : tie.Need-returns
-returns c = picture-wrong _ _ _ _ (c .before .before .before .before .before .before .check .ensures) _ (c .before .before .before .before .s .given .1) (rw (← c .before .cursor-words .ensures, ← c .before .before .video-words .ensures) (c .if1 .taken))
+returns c = picture-wrong _ _ _ _ (c .before .before .before .before .before .check .ensures) _ (c .before .before .before .s .given .1) (sym (c .before .words-wrong .ensures) ∙ c .if1 .taken)
 
 returns-2 : tie.Need-returns-2
 returns-2 c = picture-refused _ _ _ _ (c .before .before .before .check .ensures) _ (c .before .why .given .1)
 
 returns-3 : tie.Need-returns-3
-returns-3 c = picture-right _ _ _ _ (c .before .before .before .before .before .before .check .ensures) _ (c .before .before .before .before .s .given .1) (rw (← c .before .cursor-words .ensures, ← c .before .before .video-words .ensures) (c .if1 .left))
+returns-3 c = picture-right _ _ _ _ (c .before .before .before .before .before .check .ensures) _ (c .before .before .before .s .given .1) (sym (c .before .words-wrong .ensures) ∙ c .if1 .left)
 
 pub judge-spec : {M : Type 1} → statement M
 judge-spec =
@@ -34,8 +32,7 @@ judge-spec =
     check-requires
     enum-known-why
     enum-known-s
-    video-words-requires
-    cursor-words-requires
+    words-wrong-requires
     returns
     returns-2
     returns-3)

@@ -1,6 +1,6 @@
 use borrow.Author.Needs.{needs}
-use Rattle.marks.proofs.count.words_wrong.Statement.{statement}
-use Rattle.marks.proofs.count.words_wrong.Tie as tie
+use Rattle.frame.proofs.words_wrong.Statement.{statement}
+use Rattle.frame.proofs.words_wrong.Tie as tie
 
 video-words-requires : tie.Need-video-words-requires
 video-words-requires c κs = search needs
