@@ -1,7 +1,7 @@
 -- Pixels of words: a pixel of a list is a field of one of its words, at any depth, and the words of a raster are a stretch of the list.
 use Prim.Native.Nat.{ℕ, zero, suc, _+_, _*_, _-_, _/_, _%_, _^_, _<_, _≤_}
 use mathlib.Core.Path.{_≡_, refl, sym, ap, _∙_}
-use mathlib.Core.List.{List}
+use mathlib.Core.List.{List, [], _∷_}
 use native.Mathlib.Nat.{mod-eq-of-lt, mod-lt, one-mul, mul-assoc, mul-le-mul-right, div-one, sub-self, zero-mul, mul-le-mul, mul-zero, le-mul-of-pos-right, mul-one}
 use native.Mathlib.Omega.{arith}
 use lib.Dec.{eqb}
@@ -121,3 +121,24 @@ pub bit-turn : (table o m : List ℕ) (w at j v : ℕ) → at + j < length o →
 bit-turn table o m w at j v room e so-far =
     let n : at + j + 1 ≡ at + (j + 1) = omega arith in
     rw n at (paint-more {f = from at (wordInk table w 1)} v (omega arith) room (e ∙ bit-ink table w at j) so-far)
+
+-- Two cells serve for words of one bit.
+module _ (table ws : List ℕ) (at q k : ℕ) (start : k ≡ at + q * 32) where
+  two-cells : (b : ℕ) → b < 2 → getD (getD table 0 0 ∷ getD table 1 0 ∷ []) b 0 ≡ getD table b 0
+  two-cells zero h = refl
+  two-cells (suc zero) h = refl
+  two-cells (suc (suc b)) h = absurd (omega arith)
+
+  two-same : (i : ℕ) → k ≤ i → i < k + 32
+      → from k (wordInk (getD table 0 0 ∷ getD table 1 0 ∷ []) (getD ws q 0) 1) i ≡ from at (wordsInk table ws 1) i
+  unfolding from wordInk
+  two-same i p t =
+      two-cells (getD ws q 0 / 2 ^ ((i - k) * 1) % 2 ^ 1) (mod-lt _ (pow-pos 1))
+      ∙ word-same table ws 1 at q 32 k start refl i p t
+
+  -- One word more is painted.
+  pub two-turn : (o p r : List ℕ) → k + 32 ≤ length o → Paints 0 o p at k (from at (wordsInk table ws 1))
+      → r ≡ painted p k (k + 32) (from k (wordInk (getD table 0 0 ∷ getD table 1 0 ∷ []) (getD ws q 0) 1))
+      → Paints 0 o r at (k + 32) (from at (wordsInk table ws 1))
+  two-turn o p r room so-far e =
+      paint-next (omega arith) (omega arith) so-far (paint-as (from at (wordsInk table ws 1)) two-same (paints-of (rw (so-far .len) room) e))

@@ -1,4 +1,5 @@
 // Display words into cells, through a table that has a cell for each logical pixel.
+ghost use mathlib.Core.List.{[], _∷_};
 ghost use mathlib.Core.Path.{_≡_};
 ghost use Prim.Native.Nat.{_+_, _*_, _/_, _≤_, _<_};
 ghost use lib.ListN.{length};
@@ -76,12 +77,10 @@ fn choose(bit: bool, zero: u16, one: u16) -> u16
 }
 
 // A word of 32 pixels of one bit: each cell by the bit's own place, so that the machine can make several at once.
-fn bits(out: &mut [u16], at: usize, w: u32, table: &[u16; 256])
+fn bits(out: &mut [u16], at: usize, w: u32, zero: u16, one: u16)
     requires { ⌜ at + 32 ≤ length (now out) ⌝ }
-    ensures { λ _. ⌜ now (out .exit) ≡ painted (now (out .entry)) at (at + 32) (from at (wordInk (now (table .entry)) w 1)) ⌝ }
+    ensures { λ _. ⌜ now (out .exit) ≡ painted (now (out .entry)) at (at + 32) (from at (wordInk (zero ∷ one ∷ []) w 1)) ⌝ }
 {
-    let zero = table[0];
-    let one = table[1];
     let mut j = 0;
     while j < 32 {
         out[at + j] = choose((w >> j) % 2 == 1, zero, one);
@@ -89,16 +88,18 @@ fn bits(out: &mut [u16], at: usize, w: u32, table: &[u16; 256])
     }
 }
 
-// The same for a list of words.
+// The same for a list of words. The two cells are read once, and not again after each word that is stored.
 fn bit_words(out: &mut [u16], at: usize, video: &[u32], table: &[u16; 256])
     requires { ⌜ at + length (now video) * 32 ≤ length (now out) ⌝ }
     ensures { λ _. ⌜ now (out .exit) ≡ painted (now (out .entry)) at (at + length (now (video .entry)) * 32)
         (from at (wordsInk (now (table .entry)) (now (video .entry)) 1)) ⌝ }
 {
+    let zero = table[0];
+    let one = table[1];
     let mut k = at;
     let mut q = 0;
     while q < video.len() {
-        bits(out, k, video[q], table);
+        bits(out, k, video[q], zero, one);
         k += 32;
         q += 1;
     }

@@ -4,24 +4,19 @@ use Rattle.frame.proofs.Words.{bit-turn}
 use Rattle.frame.specs.Ink.{from, wordInk}
 use Prim.Native.Nat.{_+_, _-_, _≤_}
 use mathlib.Core.Path.{_≡_}
+use mathlib.Core.List.{[], _∷_}
 use Rattle.buffers.proofs.Paints.{Paints, paint-none, paints-painted}
 use Rattle.frame.proofs.decode.bits.Statement.{statement}
 use Rattle.frame.proofs.decode.bits.Tie as tie
 
 abbrev Inv-loop : tie.InvT-loop
-Inv-loop out₀ at w table zero one j₀ out j = (j ≤ 32) × Paints 0 out₀ out at (at + j) (from at (wordInk table w 1))
+Inv-loop out₀ at w zero one j₀ out j = (j ≤ 32) × Paints 0 out₀ out at (at + j) (from at (wordInk (zero ∷ one ∷ []) w 1))
 
 abbrev μ-loop : tie.MeasureT-loop
-μ-loop out₀ at w table zero one j₀ out j = 32 - j
-
-element-copy-out-zero : tie.Need-element-copy-out-zero Inv-loop μ-loop
-element-copy-out-zero c = search needs
-
-element-copy-out-one : tie.Need-element-copy-out-one Inv-loop μ-loop
-element-copy-out-one c = search needs
+μ-loop out₀ at w zero one j₀ out j = 32 - j
 
 loop-holds : tie.Need-loop-holds Inv-loop μ-loop
-loop-holds c = let n : c .before .before .before .args .at + 0 ≡ c .before .before .before .args .at = omega arith in
+loop-holds c = let n : c .before .args .at + 0 ≡ c .before .args .at = omega arith in
     (omega arith, rw n (paint-none _ _))
 
 cast-choose : tie.Need-cast-choose Inv-loop μ-loop
@@ -49,15 +44,15 @@ loop-less : tie.Need-loop-less Inv-loop μ-loop
 loop-less c = search needs
 
 loop-again : tie.Need-loop-again Inv-loop μ-loop
-loop-again c = let s = c .before .before .before .before .before .before in
+loop-again c = let s = c .before .before .before .before in
     let l = c .before .before .loop in
-    (omega arith, bit-turn _ _ _ _ _ _ _ (omega (arith, s .pre)) (c .choose .ensures) (l .inv .1))
+    (omega arith, bit-turn (s .args .zero ∷ s .args .one ∷ []) _ _ _ _ _ _ (omega (arith, s .pre)) (c .choose .ensures) (l .inv .1))
 
 same-length : tie.Need-same-length Inv-loop μ-loop
 same-length c = search needs
 
 returns : tie.Need-returns Inv-loop μ-loop
-returns c = let s = c .before .before .before .before .before in
+returns c = let s = c .before .before .before in
     let l = c .before .loop in
     let e : l .j ≡ 32 = omega arith in
     paints-painted (s .pre) (rw e at (l .inv .1))
@@ -68,8 +63,6 @@ bits-spec =
     (tie.spec
     Inv-loop
     μ-loop
-    element-copy-out-zero
-    element-copy-out-one
     loop-holds
     cast-choose
     shr-choose
