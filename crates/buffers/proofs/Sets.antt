@@ -12,17 +12,22 @@ module _ {A : Type 0} where
   pub sets-append : (l : List A) (i : ℕ) (xs ys : List A) → sets l i (xs ++ ys) ≡ sets (sets l i xs) (i + length xs) ys
   sets-append l i [] ys = rw add-zero
   sets-append l i (x ∷ xs) ys =
-      sets-append (set l i x) (suc i) xs ys ∙ ap (λ (n : ℕ). sets (sets (set l i x) (suc i) xs) n ys) (suc-add i (length xs) ∙ sym (add-suc i (length xs)))
+      sets-append (set l i x) (suc i) xs ys
+      ∙ ap (λ (n : ℕ). sets (sets (set l i x) (suc i) xs) n ys) (suc-add i (length xs) ∙ sym (add-suc i (length xs)))
 
   -- one element stored, of a list that is stored from its start on
-  pub sets-turn : (l vs : List A) (k : ℕ) (d : A) → k < length vs → sets l k (drop k vs) ≡ sets (set l k (getD vs k d)) (k + 1) (drop (k + 1) vs)
+  pub sets-turn :
+      (l vs : List A) (k : ℕ) (d : A) → k < length vs
+      → sets l k (drop k vs) ≡ sets (set l k (getD vs k d)) (k + 1) (drop (k + 1) vs)
   sets-turn l vs k d h = rw (add-one, drop-cons vs k d)
 
   pub sets-done : (l vs : List A) (k i : ℕ) → length vs ≤ k → sets l i (drop k vs) ≡ l
   sets-done l vs k i h = rw (drop-of-length-le vs h)
 
   -- four stores in a row
-  pub sets-four : (l : List A) (at : ℕ) (a b c d : A) → set (set (set (set l at a) (at + 1) b) (at + 2) c) (at + 3) d ≡ sets l at (a ∷ b ∷ c ∷ d ∷ [])
+  pub sets-four :
+      (l : List A) (at : ℕ) (a b c d : A)
+      → set (set (set (set l at a) (at + 1) b) (at + 2) c) (at + 3) d ≡ sets l at (a ∷ b ∷ c ∷ d ∷ [])
   sets-four l at a b c d =
       let p : at + 1 ≡ suc at = omega arith in
       let q : at + 2 ≡ suc (suc at) = omega arith in

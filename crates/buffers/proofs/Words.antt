@@ -57,20 +57,32 @@ words-cons bs k h =
     let h1 : suc k < length bs = omega arith in
     let h2 : suc (suc k) < length bs = omega arith in
     let h3 : suc (suc (suc k)) < length bs = omega arith in
-    rw (q, a, b, c, drop-cons bs k 0 h0, drop-cons bs (suc k) 0 h1, drop-cons bs (suc (suc k)) 0 h2, drop-cons bs (suc (suc (suc k))) 0 h3)
+    rw (
+      q,
+      a,
+      b,
+      c,
+      drop-cons bs k 0 h0,
+      drop-cons bs (suc k) 0 h1,
+      drop-cons bs (suc (suc k)) 0 h2,
+      drop-cons bs (suc (suc (suc k))) 0 h3,
+    )
 
 pub words-drop : (k : ℕ) (bs : List ℕ) → 4 * k ≤ length bs → drop k (wordsOf bs) ≡ wordsOf (drop (4 * k) bs)
 words-drop zero bs h = refl
 words-drop (suc k) bs h =
     let q : 4 * suc k ≡ 4 * k + 4 = omega arith in
-    let t : drop k (wordsOf bs) ≡ wordAt bs (4 * k) ∷ wordsOf (drop (4 * k + 4) bs) = words-drop k bs (omega arith) ∙ words-cons bs (4 * k) (omega arith) in
-    ap (λ (n : ℕ). drop n (wordsOf bs)) (sym (add-one k)) ∙ sym (drop-drop 1 k (wordsOf bs)) ∙ ap (drop 1) t ∙ ap (λ (n : ℕ). wordsOf (drop n bs)) (sym q)
+    ap (λ (n : ℕ). drop n (wordsOf bs)) (sym (add-one k))
+    ∙ sym (drop-drop 1 k (wordsOf bs))
+    ∙ ap (drop 1) (words-drop k bs (omega arith) ∙ words-cons bs (4 * k) (omega arith))
+    ∙ ap (λ (n : ℕ). wordsOf (drop n bs)) (sym q)
 
 -- the word at each place
 pub words-at : (bs : List ℕ) (k : ℕ) → 4 * k + 4 ≤ length bs → getD (wordsOf bs) k 0 ≡ wordAt bs (4 * k)
 words-at bs k h =
-    let t : drop k (wordsOf bs) ≡ wordAt bs (4 * k) ∷ wordsOf (drop (4 * k + 4) bs) = words-drop k bs (omega arith) ∙ words-cons bs (4 * k) (omega arith) in
-    ap (λ (n : ℕ). getD (wordsOf bs) n 0) (sym (add-zero k)) ∙ sym (getD-drop k (wordsOf bs) 0 0) ∙ ap (λ (l : List ℕ). getD l 0 0) t
+    ap (λ (n : ℕ). getD (wordsOf bs) n 0) (sym (add-zero k))
+    ∙ sym (getD-drop k (wordsOf bs) 0 0)
+    ∙ ap (λ (l : List ℕ). getD l 0 0) (words-drop k bs (omega arith) ∙ words-cons bs (4 * k) (omega arith))
 
 digits : (a b c d w p q : ℕ) → w ≡ a + p * 256 → p ≡ b + q * 256 → q ≡ c + d * 256 → word a b c d ≡ w
 digits a b c d w p q e f g = omega arith
@@ -93,6 +105,7 @@ unfolding wordsOf bytesOf
 words-back [] h = refl
 words-back (w ∷ ws) h = rw (word-back w (h 0), words-back ws (λ i. h (suc i)))
 
+-- and the bytes of the word of four bytes are those
 module _ (a b c d : ℕ) (ha : a < 256) (hb : b < 256) (hc : c < 256) (hd : d < 256) where
   byte0 : word a b c d % 256 ≡ a
   byte0 = omega arith
@@ -105,6 +118,10 @@ module _ (a b c d : ℕ) (ha : a < 256) (hb : b < 256) (hc : c < 256) (hd : d < 
 
   byte3 : word a b c d / 16777216 % 256 ≡ d
   byte3 = omega arith
+
+  four-back : bytesOf (word a b c d ∷ []) ≡ a ∷ b ∷ c ∷ d ∷ []
+  unfolding bytesOf
+  four-back = rw (byte0, byte1, byte2, byte3)
 
 no-1 : (n : ℕ) → 1 ≡ 4 * n → ⊥
 no-1 n e = omega arith
@@ -122,7 +139,8 @@ bytes-back n (a ∷ []) e h = absurd (no-1 n e)
 bytes-back n (a ∷ b ∷ []) e h = absurd (no-2 n e)
 bytes-back n (a ∷ b ∷ c ∷ []) e h = absurd (no-3 n e)
 bytes-back n (a ∷ b ∷ c ∷ d ∷ bs) e h =
-    rw (byte0 a b c d (h 0) (h 1) (h 2) (h 3), byte1 a b c d (h 0) (h 1) (h 2) (h 3), byte2 a b c d (h 0) (h 1) (h 2) (h 3), byte3 a b c d (h 0) (h 1) (h 2) (h 3), bytes-back (n - 1) bs (omega arith) (λ i. h (suc (suc (suc (suc i))))))
+    ap (λ (l : List ℕ). l ++ bytesOf (wordsOf bs)) (four-back a b c d (h 0) (h 1) (h 2) (h 3))
+    ∙ ap (λ (l : List ℕ). a ∷ b ∷ c ∷ d ∷ l) (bytes-back (n - 1) bs (omega arith) (λ i. h (suc (suc (suc (suc i))))))
 
 pub bytes-at : (ws : List ℕ) (k : ℕ) → k < 4 * length ws → getD (bytesOf ws) k 0 ≡ byteOf ws k
 unfolding bytesOf

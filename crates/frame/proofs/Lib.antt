@@ -8,3 +8,5 @@ pub mod Pointer
 pub mod Rasters
 pub mod Ready
 pub mod Calls
+pub mod RasterThree
+pub mod Unique

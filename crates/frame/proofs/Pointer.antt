@@ -1,26 +1,25 @@
 -- The cursor over a raster: where it covers, and that painting its pairs between border start and end covers exactly that.
-use Prim.Native.Nat.{ℕ, suc, _+_, _*_, _-_, _/_, _%_, _<_, _≤_, min}
+use Prim.Native.Nat.{ℕ, _+_, _*_, _-_, _<_, _≤_, min}
 use mathlib.Core.Bool.{Bool, true, false, _&&_, not, true≢false}
-use mathlib.Core.Path.{_≡_, refl, sym, ap, _∙_}
+use mathlib.Core.Path.{_≡_, refl, sym, _∙_}
 use mathlib.Core.List.{List}
-use mathlib.Core.Logic.{_⊎_, inl, inr}
+use mathlib.Core.Logic.{inl, inr}
 use native.Mathlib.Omega.{arith}
-use borrow.Author.Tests.{ltb-true, leb-true, lt-ltb, le-ltb, le-leb, lt-leb, ne-eqb, eq-eqb, not-true, eqb-false}
+use borrow.Author.Tests.{lt-ltb, le-ltb, le-leb, ne-eqb}
 use lib.Dec.{ltb, leb, eqb}
 use lib.ListN.{length, getD, set}
 use Rattle.buffers.specs.Pick.{pick}
 use Rattle.buffers.specs.Painted.{painted}
 use Rattle.buffers.proofs.Tests.{and-split}
-use Rattle.buffers.proofs.Split.{lt-or-le, true-or-false, is-false}
-use Rattle.buffers.proofs.Paints.{Paints, paint-none, paint-more, paint-skip, paint-as, paint-within, paints-of, paints-painted}
-use Rattle.registers.specs.Setting.{cursorWords}
+use Rattle.buffers.proofs.Split.{true-or-false, is-false}
+use Rattle.buffers.proofs.Paints.{Paints, paint-more, paint-skip, paint-within, paints-of, paints-painted}
 use Rattle.registers.specs.declared.setting.Setting.{Setting}
 use Rattle.frame.specs.Pixel.{cursorPair}
 use Rattle.frame.specs.Cell.{within, inDisplay, inBorder, inCursor, plainCode, covered}
 use Rattle.registers.proofs.Accepted.{Accepted, cursor-words}
 use Rattle.frame.specs.Lent.{Pointed}
-use Rattle.frame.specs.Ink.{from, plainInk, ink, pairIn, pairInk, coverInk}
-use Rattle.frame.proofs.Regions.{Inside, within-true, true-within, border-inside, inside-border, display-inside, display-bordered, border-shown}
+use Rattle.frame.specs.Ink.{pairIn, pairInk, coverInk}
+use Rattle.frame.proofs.Regions.{Inside, within-true, border-inside, inside-border, display-inside, display-bordered, border-shown}
 
 -- A pair is two bits.
 pub pair-small : (cursor : List ℕ) (first i : ℕ) → pairIn cursor first i < 4
@@ -55,10 +54,10 @@ module _ (s : Setting) (r : Accepted s) (x y : ℕ) where
   unfolding plainCode
   code-border e =
       elim (true-or-false (inBorder s x y)) [
-        inl b ↦ border-inside s x y b
-      | inr b ↦
-        let d = is-false (inDisplay s x y) (λ t. true≢false (sym (inside-border s x y (display-bordered s r x y (display-inside s x y t))) ∙ b)) in
-        absurd (low (ltb x (s .hs .0)) (ltb y (s .vs .0)) (rw (d, b) at e))
+        | inl b ↦ border-inside s x y b
+        | inr b ↦
+            let d = is-false (inDisplay s x y) (λ t. true≢false (sym (inside-border s x y (display-bordered s r x y (display-inside s x y t))) ∙ b)) in
+            absurd (low (ltb x (s .hs .0)) (ltb y (s .vs .0)) (rw (d, b) at e))
       ]
     where
       low : (a b : Bool) → leb 4 (pick (ltb 0 (pick a 1 0 + pick b 2 0)) (pick a 1 0 + pick b 2 0) 0) ≡ true → ⊥
@@ -176,8 +175,11 @@ module _ (s : Setting) (r : Accepted s) (pens cursor o : List ℕ) (at y : ℕ) 
         over : (k : ℕ) → at + cx + low ≤ k → k < at + cx + high → pairInk pens cursor (2 * (y - s .vcs .0)) (at + cx) o k ≡ coverInk s pens cursor y at o k
         over k a b =
             let i : k - (at + cx) ≡ k - at - s .cx .0 = omega arith in
-            rw (i, covers-covered s r cursor (k - at) y (record {
-              on = on;
-              border = record { left = omega arith; right = omega arith; above = top; below = bottom };
-              cursor = record { left = omega arith; right = omega arith; above = above; below = below };
-            })) (swap (eqb (pairIn cursor (2 * (y - s .vcs .0)) (k - at - s .cx .0)) 0) (getD o k 0) (getD pens (pairIn cursor (2 * (y - s .vcs .0)) (k - at - s .cx .0)) 0))
+            rw (
+              i,
+              covers-covered s r cursor (k - at) y (record {
+                on = on;
+                border = record { left = omega arith; right = omega arith; above = top; below = bottom };
+                cursor = record { left = omega arith; right = omega arith; above = above; below = below };
+              }),
+            ) (swap (eqb (pairIn cursor (2 * (y - s .vcs .0)) (k - at - s .cx .0)) 0) (getD o k 0) (getD pens (pairIn cursor (2 * (y - s .vcs .0)) (k - at - s .cx .0)) 0))

@@ -1,18 +1,17 @@
 -- The words of one displayed raster: a stretch of the caller's list, whose pixels are the frame's.
-use Prim.Native.Nat.{ℕ, _+_, _*_, _-_, _/_, _%_, _^_, _<_, _≤_}
-use mathlib.Core.Path.{_≡_, refl, sym, ap, _∙_}
+use Prim.Native.Nat.{ℕ, _+_, _*_, _-_, _/_, _<_, _≤_}
+use mathlib.Core.Path.{_≡_, sym, ap, _∙_}
 use mathlib.Core.List.{List}
-use mathlib.Core.Logic.{_⊎_, inl, inr}
-use native.Mathlib.Nat.{mul-assoc, mul-comm, mul-le-mul-right, eq-of-mul-eq-mul-right, add-sub-cancel-left, mul-le-mul}
+use mathlib.Core.Logic.{inl, inr}
+use native.Mathlib.Nat.{mul-assoc, mul-le-mul-right, eq-of-mul-eq-mul-right, mul-le-mul}
 use native.Mathlib.Omega.{arith}
 use borrow.Author.Tests.{lt-ltb}
-use lib.ListN.{length, getD, take, drop, length-take, length-drop}
-use lib.Seq.{getD-take, getD-drop}
+use lib.ListN.{length, take, drop, length-take, length-drop}
 use Rattle.buffers.specs.Painted.{painted}
-use Rattle.buffers.proofs.Paints.{Paints, paint-as, paints-of, paints-painted}
-use Rattle.registers.specs.Setting.{displayOn, videoWords}
+use Rattle.buffers.proofs.Paints.{paint-as, paints-of, paints-painted}
+use Rattle.registers.specs.Setting.{videoWords}
 use Rattle.registers.specs.declared.setting.Setting.{Setting}
-use Rattle.frame.specs.Pixel.{pixel, logical, rasterWords, firstWord}
+use Rattle.frame.specs.Pixel.{pixel, rasterWords, firstWord}
 use Rattle.registers.proofs.Accepted.{Depth, Accepted}
 use Rattle.registers.proofs.Words.{depth-least, depth-most, raster-bits, raster-most, video-rasters}
 use Rattle.frame.specs.Lent.{Raster}

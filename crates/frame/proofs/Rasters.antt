@@ -1,14 +1,13 @@
 -- A raster is the cursor over plain cells, and a frame is its rasters one after another.
 use Prim.Native.Nat.{ℕ, _+_, _*_, _-_, _/_, _%_, _<_, _≤_}
-use mathlib.Core.Bool.{Bool, true, false}
-use mathlib.Core.Path.{_≡_, refl, sym, ap, _∙_}
+use mathlib.Core.Path.{_≡_, sym, ap, _∙_}
 use mathlib.Core.List.{List}
-use native.Mathlib.Nat.{mul-le-mul-right, mul-le-mul-left, mul-comm, mul-add-div-right, mul-add-mod-self-right, div-eq-of-lt, mod-eq-of-lt, add-zero}
+use native.Mathlib.Nat.{mul-le-mul-right, mul-add-div-right, mul-add-mod-self-right, div-eq-of-lt, mod-eq-of-lt, add-zero}
 use native.Mathlib.Omega.{arith}
 use lib.ListN.{length, getD}
 use Rattle.buffers.specs.Pick.{pick}
 use Rattle.buffers.specs.Painted.{painted}
-use Rattle.buffers.proofs.Paints.{Paints, paint-none, paint-as, paint-next, paints-of, paints-painted, length-painted}
+use Rattle.buffers.proofs.Paints.{Paints, paint-as, paint-next, paints-of, paints-painted, length-painted}
 use Rattle.registers.specs.declared.setting.Setting.{Setting}
 use Rattle.frame.specs.Pixel.{cursorPair}
 use Rattle.frame.specs.Cell.{covered}

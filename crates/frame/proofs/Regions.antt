@@ -1,15 +1,15 @@
 -- The rule with no cursor, stretch by stretch of a raster of a right setting.
-use Prim.Native.Nat.{ℕ, _+_, _*_, _-_, _<_, _≤_}
-use mathlib.Core.Bool.{Bool, true, false, _&&_}
-use mathlib.Core.Path.{_≡_, refl, sym, ap, _∙_}
+use Prim.Native.Nat.{ℕ, _+_, _-_, _<_, _≤_}
+use mathlib.Core.Bool.{true, _&&_}
+use mathlib.Core.Path.{_≡_}
 use mathlib.Core.List.{List}
-use mathlib.Core.Logic.{_⊎_, inl, inr}
+use mathlib.Core.Logic.{inl, inr}
 use native.Mathlib.Omega.{arith}
-use borrow.Author.Tests.{ltb-true, leb-true, lt-ltb, le-ltb, le-leb, lt-leb}
-use lib.Dec.{ltb, leb, eqb}
-use lib.ListN.{length, getD}
+use borrow.Author.Tests.{ltb-true, leb-true, lt-ltb, le-ltb, le-leb}
+use lib.Dec.{ltb, leb}
+use lib.ListN.{getD}
 use Rattle.buffers.proofs.Tests.{and-split}
-use Rattle.buffers.proofs.Split.{lt-or-le, true-or-false, is-false}
+use Rattle.buffers.proofs.Split.{lt-or-le, is-false}
 use Rattle.registers.specs.Setting.{displayOn, borderOn}
 use Rattle.registers.specs.declared.setting.Setting.{Setting}
 use Rattle.frame.specs.Pixel.{logical}
@@ -72,8 +72,8 @@ module _ (s : Setting) (pens table video : List ℕ) (x y : ℕ) where
   unfolding plainInk plainCode
   sync-ink h =
       elim (lt-or-le y (s .vs .0)) [
-        inl g ↦ rw (lt-ltb x (s .hs .0) h, lt-ltb y (s .vs .0) g)
-      | inr g ↦ rw (lt-ltb x (s .hs .0) h, le-ltb y (s .vs .0) g)
+        | inl g ↦ rw (lt-ltb x (s .hs .0) h, lt-ltb y (s .vs .0) g)
+        | inr g ↦ rw (lt-ltb x (s .hs .0) h, le-ltb y (s .vs .0) g)
       ]
 
   pub blank-ink : Accepted s → s .hs .0 ≤ x → (Inside (s .bs .0) (s .be .0) (s .vbs .0) (s .vbe .0) x y → ⊥) → plainInk s pens table video y x ≡ blankOf s y
@@ -82,8 +82,8 @@ module _ (s : Setting) (pens table video : List ℕ) (x y : ℕ) where
       let b = is-false (inBorder s x y) (λ e. out (border-inside s x y e)) in
       let d = is-false (inDisplay s x y) (λ e. out (display-bordered s r x y (display-inside s x y e))) in
       elim (lt-or-le y (s .vs .0)) [
-        inl g ↦ rw (le-ltb x (s .hs .0) h, lt-ltb y (s .vs .0) g)
-      | inr g ↦ rw (le-ltb x (s .hs .0) h, le-ltb y (s .vs .0) g, b, d)
+        | inl g ↦ rw (le-ltb x (s .hs .0) h, lt-ltb y (s .vs .0) g)
+        | inr g ↦ rw (le-ltb x (s .hs .0) h, le-ltb y (s .vs .0) g, b, d)
       ]
 
   pub border-ink : Accepted s → Inside (s .bs .0) (s .be .0) (s .vbs .0) (s .vbe .0) x y

@@ -2,18 +2,19 @@
 use Prim.Native.Nat.{ℕ, zero, suc, _+_, _*_, _-_, _/_, _%_, _^_, _<_, _≤_}
 use mathlib.Core.Path.{_≡_, refl, sym, ap, _∙_}
 use mathlib.Core.List.{List}
-use native.Mathlib.Nat.{mod-eq-of-lt, mod-lt, one-mul, add-mul, mul-assoc, mul-comm, mul-add-div-right, mul-add-mod-self-right, mul-le-mul-right, add-sub-cancel-left, div-eq-of-lt, div-one, sub-self, zero-mul, mul-le-mul, mul-zero, le-mul-of-pos-right}
+use native.Mathlib.Nat.{mod-eq-of-lt, mod-lt, one-mul, mul-assoc, mul-le-mul-right, div-one, sub-self, zero-mul, mul-le-mul, mul-zero, le-mul-of-pos-right, mul-one}
 use native.Mathlib.Omega.{arith}
-use lib.ListN.{length, getD, take, drop}
+use lib.Dec.{eqb}
+use lib.ListN.{length, getD, set}
 use lib.Pow.{pow-pos, pow-mono, shr-shr}
-use lib.Seq.{getD-take, getD-drop}
 use Rattle.frame.specs.Pixel.{pixel}
 use Rattle.registers.proofs.Accepted.{Depth}
 use Rattle.frame.specs.Ink.{from, wordInk, wordsInk}
 use Rattle.buffers.proofs.Paints.{Paints, paint-more, paint-next, paint-as, paints-of}
-use mathlib.Core.Logic.{_⊎_, inl, inr}
+use mathlib.Core.Logic.{inl, inr}
 use Rattle.frame.proofs.PixelPlaces.{pixel-in}
 use Rattle.buffers.proofs.Split.{lt-or-le}
+use Rattle.buffers.specs.Pick.{pick}
 use Rattle.buffers.specs.Painted.{painted}
 
 -- 2 ^ d as the machine makes it.
@@ -41,11 +42,11 @@ next-from w at k d h = let e : k + 1 - at ≡ k - at + 1 = omega arith in rw e (
 pub fill-positive : (n d : ℕ) → n * d ≡ 32 → 0 < d
 fill-positive n d e =
     elim (lt-or-le 0 d) [
-      inl h ↦ h
-    | inr h ↦
-      let z : d ≡ 0 = omega arith in
-      let y : n * d ≡ 0 = rw z (mul-zero n) in
-      omega arith
+      | inl h ↦ h
+      | inr h ↦
+          let z : d ≡ 0 = omega arith in
+          let y : n * d ≡ 0 = rw z (mul-zero n) in
+          omega arith
     ]
 
 pub fill-most : (n d : ℕ) → n * d ≡ 32 → n ≤ 32
@@ -101,3 +102,22 @@ depth-one (inl e) a b c = e
 depth-one (inr (inl e)) a b c = absurd (c e)
 depth-one (inr (inr (inl e))) a b c = absurd (b e)
 depth-one (inr (inr (inr e))) a b c = absurd (a e)
+
+-- The cell of bit j, chosen by that bit.
+pub bit-ink : (table : List ℕ) (w at j : ℕ) → pick (eqb (w / 2 ^ j % 2) 1) (getD table 1 0) (getD table 0 0) ≡ from at (wordInk table w 1) (at + j)
+unfolding from wordInk
+bit-ink table w at j =
+    let e : at + j - at ≡ j = omega arith in
+    rw (e, mul-one j) (by-bit (w / 2 ^ j % 2) (omega arith))
+  where
+    by-bit : (b : ℕ) → b < 2 → pick (eqb b 1) (getD table 1 0) (getD table 0 0) ≡ getD table b 0
+    by-bit zero h = refl
+    by-bit (suc zero) h = refl
+    by-bit (suc (suc b)) h = absurd (omega arith)
+
+-- One bit more is painted.
+pub bit-turn : (table o m : List ℕ) (w at j v : ℕ) → at + j < length o → v ≡ pick (eqb (w / 2 ^ j % 2) 1) (getD table 1 0) (getD table 0 0)
+    → Paints 0 o m at (at + j) (from at (wordInk table w 1)) → Paints 0 o (set m (at + j) v) at (at + (j + 1)) (from at (wordInk table w 1))
+bit-turn table o m w at j v room e so-far =
+    let n : at + j + 1 ≡ at + (j + 1) = omega arith in
+    rw n at (paint-more {f = from at (wordInk table w 1)} v (omega arith) room (e ∙ bit-ink table w at j) so-far)

@@ -2,6 +2,7 @@
 ghost use mathlib.Core.Path.{_≡_};
 ghost use Prim.Native.Nat.{_+_, _*_, _/_, _≤_, _<_};
 ghost use lib.ListN.{length};
+ghost use Rattle.buffers.specs.Pick.{pick};
 ghost use Rattle.buffers.specs.Painted.{painted};
 ghost use Rattle.registers.proofs.Accepted.{Depth};
 ghost use Rattle.frame.specs.Ink.{from, wordInk, wordsInk};
@@ -25,7 +26,8 @@ fn some(out: &mut [u16], at: usize, count: usize, w: u32, d: u32, table: &[u16; 
 // All pixels of one word: `chunks` times `count` of them.
 fn word(out: &mut [u16], at: usize, count: usize, chunks: usize, w: u32, d: u32, table: &[u16; 256])
     requires { ⌜ (at + chunks * count ≤ length (now out)) × (count ≤ 8) × (d ≤ 8) × (chunks * count * d ≡ 32) ⌝ }
-    ensures { λ _. ⌜ now (out .exit) ≡ painted (now (out .entry)) at (at + chunks * count) (from at (wordInk (now (table .entry)) w d)) ⌝ }
+    ensures { λ _. ⌜ now (out .exit) ≡ painted (now (out .entry)) at (at + chunks * count)
+        (from at (wordInk (now (table .entry)) w d)) ⌝ }
 {
     let step = (count as u32) * d;
     let mut k = at;
@@ -40,9 +42,19 @@ fn word(out: &mut [u16], at: usize, count: usize, chunks: usize, w: u32, d: u32,
 }
 
 // All pixels of a list of words.
-fn words(out: &mut [u16], at: usize, video: &[u32], count: usize, chunks: usize, d: u32, table: &[u16; 256])
-    requires { ⌜ (at + length (now video) * (chunks * count) ≤ length (now out)) × (count ≤ 8) × (d ≤ 8) × (chunks * count * d ≡ 32) ⌝ }
-    ensures { λ _. ⌜ now (out .exit) ≡ painted (now (out .entry)) at (at + length (now (video .entry)) * (chunks * count)) (from at (wordsInk (now (table .entry)) (now (video .entry)) d)) ⌝ }
+fn words(
+    out: &mut [u16],
+    at: usize,
+    video: &[u32],
+    count: usize,
+    chunks: usize,
+    d: u32,
+    table: &[u16; 256],
+)
+    requires { ⌜ (at + length (now video) * (chunks * count) ≤ length (now out)) × (count ≤ 8) × (d ≤ 8)
+        × (chunks * count * d ≡ 32) ⌝ }
+    ensures { λ _. ⌜ now (out .exit) ≡ painted (now (out .entry)) at
+        (at + length (now (video .entry)) * (chunks * count)) (from at (wordsInk (now (table .entry)) (now (video .entry)) d)) ⌝ }
 {
     let mut k = at;
     let mut q = 0;
@@ -53,10 +65,50 @@ fn words(out: &mut [u16], at: usize, video: &[u32], count: usize, chunks: usize,
     }
 }
 
+// One of two cells.
+fn choose(bit: bool, zero: u16, one: u16) -> u16
+    ensures { λ r. ⌜ r ≡ pick bit one zero ⌝ }
+{
+    if bit {
+        return one;
+    }
+    zero
+}
+
+// A word of 32 pixels of one bit: each cell by the bit's own place, so that the machine can make several at once.
+fn bits(out: &mut [u16], at: usize, w: u32, table: &[u16; 256])
+    requires { ⌜ at + 32 ≤ length (now out) ⌝ }
+    ensures { λ _. ⌜ now (out .exit) ≡ painted (now (out .entry)) at (at + 32) (from at (wordInk (now (table .entry)) w 1)) ⌝ }
+{
+    let zero = table[0];
+    let one = table[1];
+    let mut j = 0;
+    while j < 32 {
+        out[at + j] = choose((w >> j) % 2 == 1, zero, one);
+        j += 1;
+    }
+}
+
+// The same for a list of words.
+fn bit_words(out: &mut [u16], at: usize, video: &[u32], table: &[u16; 256])
+    requires { ⌜ at + length (now video) * 32 ≤ length (now out) ⌝ }
+    ensures { λ _. ⌜ now (out .exit) ≡ painted (now (out .entry)) at (at + length (now (video .entry)) * 32)
+        (from at (wordsInk (now (table .entry)) (now (video .entry)) 1)) ⌝ }
+{
+    let mut k = at;
+    let mut q = 0;
+    while q < video.len() {
+        bits(out, k, video[q], table);
+        k += 32;
+        q += 1;
+    }
+}
+
 // The same by depth: each depth's numbers are literals, so that each has a loop of its own in the machine's code.
 pub fn shown(out: &mut [u16], at: usize, video: &[u32], d: u8, table: &[u16; 256])
     requires { ⌜ (at + length (now video) * (32 / d) ≤ length (now out)) × Depth d ⌝ }
-    ensures { λ _. ⌜ now (out .exit) ≡ painted (now (out .entry)) at (at + length (now (video .entry)) * (32 / d)) (from at (wordsInk (now (table .entry)) (now (video .entry)) d)) ⌝ }
+    ensures { λ _. ⌜ now (out .exit) ≡ painted (now (out .entry)) at (at + length (now (video .entry)) * (32 / d))
+        (from at (wordsInk (now (table .entry)) (now (video .entry)) d)) ⌝ }
 {
     if d == 8 {
         words(out, at, video, 4, 1, 8, table);
@@ -70,5 +122,5 @@ pub fn shown(out: &mut [u16], at: usize, video: &[u32], d: u8, table: &[u16; 256
         words(out, at, video, 8, 2, 2, table);
         return;
     }
-    words(out, at, video, 8, 4, 1, table);
+    bit_words(out, at, video, table);
 }

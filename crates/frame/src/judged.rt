@@ -28,10 +28,17 @@ fn frame_cells(s: Setting) -> usize
     wide(s.n) * (s.v.0 as usize)
 }
 
-pub fn judged_frame(g: Registers, s: Setting, video: &[u32], cursor: &[u32], out: &mut [u16]) -> Answer
+pub fn judged_frame(
+    g: Registers,
+    s: Setting,
+    video: &[u32],
+    cursor: &[u32],
+    out: &mut [u16],
+) -> Answer
     requires { ⌜ Accepted s ⌝ }
     ensures { λ r. ⌜ (told r ≡ judged (frameTable s (now (video .entry)) (now (cursor .entry)) (length (now (out .entry)))) tt)
-        × (now (out .exit) ≡ unlessRefused (told r) (now (out .entry)) (painted (now (out .entry)) 0 (cells s) (frameCell g s (now (video .entry)) (now (cursor .entry))))) ⌝ }
+        × (now (out .exit) ≡ unlessRefused (told r) (now (out .entry)) (painted (now (out .entry)) 0 (cells s)
+        (frameCell g s (now (video .entry)) (now (cursor .entry))))) ⌝ }
 {
     if words_wrong(s, video, cursor) {
         return Answer::Refused(Refusal::WordCount);
@@ -43,10 +50,18 @@ pub fn judged_frame(g: Registers, s: Setting, video: &[u32], cursor: &[u32], out
     Answer::Done
 }
 
-pub fn judged_raster(g: Registers, s: Setting, video: &[u32], cursor: &[u32], y: Rasters, out: &mut [u16]) -> Answer
+pub fn judged_raster(
+    g: Registers,
+    s: Setting,
+    video: &[u32],
+    cursor: &[u32],
+    y: Rasters,
+    out: &mut [u16],
+) -> Answer
     requires { ⌜ Accepted s ⌝ }
     ensures { λ r. ⌜ (told r ≡ judged (rasterTable s (now (video .entry)) (now (cursor .entry)) (y .0) (length (now (out .entry)))) tt)
-        × (now (out .exit) ≡ unlessRefused (told r) (now (out .entry)) (painted (now (out .entry)) 0 (s .n .0) (rasterCell g s (now (video .entry)) (now (cursor .entry)) (y .0)))) ⌝ }
+        × (now (out .exit) ≡ unlessRefused (told r) (now (out .entry)) (painted (now (out .entry)) 0 (s .n .0)
+        (rasterCell g s (now (video .entry)) (now (cursor .entry)) (y .0)))) ⌝ }
 {
     if words_wrong(s, video, cursor) {
         return Answer::Refused(Refusal::WordCount);

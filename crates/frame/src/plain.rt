@@ -22,9 +22,18 @@ fn blank(s: Setting, y: Rasters) -> u16
 }
 
 // From the border's start to its end, in a raster of the border.
-fn middle(out: &mut [u16], at: usize, s: Setting, y: Rasters, pens: &[u16; 4], table: &[u16; 256], video: &[u32])
+fn middle(
+    out: &mut [u16],
+    at: usize,
+    s: Setting,
+    y: Rasters,
+    pens: &[u16; 4],
+    table: &[u16; 256],
+    video: &[u32],
+)
     requires { ⌜ Raster s at (now video) (now out) × (s .vbs .0 ≤ y .0) × (y .0 < s .vbe .0) ⌝ }
-    ensures { λ _. ⌜ now (out .exit) ≡ painted (now (out .entry)) (at + s .bs .0) (at + s .be .0) (from at (plainInk s (now (pens .entry)) (now (table .entry)) (now (video .entry)) (y .0))) ⌝ }
+    ensures { λ _. ⌜ now (out .exit) ≡ painted (now (out .entry)) (at + s .bs .0) (at + s .be .0)
+        (from at (plainInk s (now (pens .entry)) (now (table .entry)) (now (video .entry)) (y .0))) ⌝ }
 {
     let bs = at + wide(s.bs);
     let be = at + wide(s.be);
@@ -38,9 +47,18 @@ fn middle(out: &mut [u16], at: usize, s: Setting, y: Rasters, pens: &[u16; 4], t
     fill(out, bs, be, border);
 }
 
-pub fn plain(out: &mut [u16], at: usize, s: Setting, y: Rasters, pens: &[u16; 4], table: &[u16; 256], video: &[u32])
+pub fn plain(
+    out: &mut [u16],
+    at: usize,
+    s: Setting,
+    y: Rasters,
+    pens: &[u16; 4],
+    table: &[u16; 256],
+    video: &[u32],
+)
     requires { ⌜ Raster s at (now video) (now out) ⌝ }
-    ensures { λ _. ⌜ now (out .exit) ≡ painted (now (out .entry)) at (at + s .n .0) (from at (plainInk s (now (pens .entry)) (now (table .entry)) (now (video .entry)) (y .0))) ⌝ }
+    ensures { λ _. ⌜ now (out .exit) ≡ painted (now (out .entry)) at (at + s .n .0)
+        (from at (plainInk s (now (pens .entry)) (now (table .entry)) (now (video .entry)) (y .0))) ⌝ }
 {
     let hs = at + wide(s.hs);
     let n = at + wide(s.n);

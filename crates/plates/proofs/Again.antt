@@ -26,7 +26,9 @@ slice-sets l vs a b h k =
     rw (sets-eq vs l 0 (omega arith)) (ap (drop a) (take-append-le b vs (drop (0 + length vs) l) h))
 
 -- the bytes' two halves
-halves : (file : List ℕ) (k n : ℕ) → length file ≡ 4 * (k + n) → Below 256 file → bytesOf (wordsOf (take (4 * k) file) ++ wordsOf (drop (4 * k) file)) ≡ file
+halves :
+    (file : List ℕ) (k n : ℕ) → length file ≡ 4 * (k + n) → Below 256 file
+    → bytesOf (wordsOf (take (4 * k) file) ++ wordsOf (drop (4 * k) file)) ≡ file
 halves file k n e h =
     bytes-append (wordsOf (take (4 * k) file)) (wordsOf (drop (4 * k) file))
     ∙ rw (

@@ -67,7 +67,8 @@ module _ (file : List ℕ) (sections : Sections) (e : given sections ≡ readTol
       → (given tt ≡ copyTold file (length out)) × (after ≡ unlessRefused (copyTold file (length out)) out (sets out 0 (copied file)))
   unfolding copyTold
   copy-done out after h f =
-      (rw (← e, le-ltb _ _ h), rw (← e, le-ltb _ _ h) (f ∙ ap (λ (s : Sections). sets out 0 (wordsOf (take (4 * s .r) file))) (right-given file sections e .are)))
+      let are = ap (λ (s : Sections). sets out 0 (wordsOf (take (4 * s .r) file))) (right-given file sections e .are) in
+      (rw (← e, le-ltb _ _ h), rw (← e, le-ltb _ _ h) (f ∙ are))
 
 pub copy-refused :
     (file : List ℕ) (n d : ℕ) (out after : List ℕ) → refused n d ≡ readTold file

@@ -14,7 +14,9 @@ use Rattle.plates.specs.Plate.{mostBytes, trailerOf, plateOf, plateLengt
 use Rattle.plates.specs.Write.{writeTold}
 
 -- a section stored where the ones before it end
-section : (o m n xs ys : List ℕ) (k : ℕ) → m ≡ sets o 0 (bytesOf xs) → n ≡ sets m k (bytesOf ys) → k ≡ 4 * length xs → n ≡ sets o 0 (bytesOf (xs ++ ys))
+section :
+    (o m n xs ys : List ℕ) (k : ℕ) → m ≡ sets o 0 (bytesOf xs) → n ≡ sets m k (bytesOf ys) → k ≡ 4 * length xs
+    → n ≡ sets o 0 (bytesOf (xs ++ ys))
 section o m n xs ys k p q e =
     let l : 0 + length (bytesOf xs) ≡ k = omega (arith, length-bytes xs) in
     q ∙ rw (p, bytes-append xs ys, sets-append o 0 (bytesOf xs) (bytesOf ys), l)

@@ -38,40 +38,49 @@ module _ (rs vs cs ss : List ℕ) where
 module _
     (rs vs cs ss : List ℕ) (br : Below (2 ^ 32) rs) (bv : Below (2 ^ 32) vs) (bc : Below (2 ^ 32) cs) (bs : Below (2 ^ 32) ss)
     (fits : plateLength rs vs cs ss ≤ mostBytes) where
-  below-all : Below (2 ^ 32) (all rs vs cs ss)
+  abbrev ws : List ℕ
+  ws = all rs vs cs ss
+
+  abbrev ts : List ℕ
+  ts = trailerOf rs vs cs ss
+
+  abbrev plate : List ℕ
+  plate = plateOf rs vs cs ss
+
+  below-all : Below (2 ^ 32) ws
   below-all = below-append _ (rs ++ vs ++ cs) ss (below-append _ (rs ++ vs) cs (below-append _ rs vs br bv) bc) bs
 
-  below-whole : Below (2 ^ 32) ((all rs vs cs ss) ++ trailerOf rs vs cs ss)
+  below-whole : Below (2 ^ 32) (ws ++ ts)
   below-whole =
-      below-append _ (all rs vs cs ss) (trailerOf rs vs cs ss) below-all
+      below-append _ ws ts below-all
       (below-four (2 ^ 32) (length rs + (length vs + (length cs + length ss))) (length vs + (length cs + length ss)) (length cs + length ss) (length ss)
       (omega arith) (omega arith) (omega arith) (omega arith))
 
   -- the trailer's word i
-  trailer-word : (i n : ℕ) → i < 4 → n ≡ length (plateOf rs vs cs ss) - 16 + 4 * i → wordAt (plateOf rs vs cs ss) n ≡ getD (trailerOf rs vs cs ss) i 0
+  trailer-word : (i n : ℕ) → i < 4 → n ≡ length plate - 16 + 4 * i → wordAt plate n ≡ getD ts i 0
   unfolding plateOf
   trailer-word i n h e =
-      let whole = (all rs vs cs ss) ++ trailerOf rs vs cs ss in
-      let at : n ≡ 4 * (length (all rs vs cs ss) + i) = omega (arith, length-plate rs vs cs ss, length-all rs vs cs ss) in
-      rw (at, ← words-at (bytesOf whole) (length (all rs vs cs ss) + i) (omega (arith, length-bytes whole, length-whole rs vs cs ss)), words-back whole below-whole)
-      (getD-append-add (all rs vs cs ss) (trailerOf rs vs cs ss) i 0)
+      let whole = ws ++ ts in
+      let at : n ≡ 4 * (length ws + i) = omega (arith, length-plate rs vs cs ss, length-all rs vs cs ss) in
+      let bytes = words-at (bytesOf whole) (length ws + i) (omega (arith, length-bytes whole, length-whole rs vs cs ss)) in
+      rw (at, ← bytes, words-back whole below-whole) (getD-append-add ws ts i 0)
 
-  big : 16 ≤ length (plateOf rs vs cs ss)
+  big : 16 ≤ length plate
   big = omega (arith, length-plate rs vs cs ss)
 
-  r-is : rOf (plateOf rs vs cs ss) ≡ length rs + (length vs + (length cs + length ss))
+  r-is : rOf plate ≡ length rs + (length vs + (length cs + length ss))
   r-is = trailer-word 0 _ (omega arith) (omega arith)
 
-  v-is : vOf (plateOf rs vs cs ss) ≡ length vs + (length cs + length ss)
+  v-is : vOf plate ≡ length vs + (length cs + length ss)
   v-is = trailer-word 1 _ (omega arith) (omega (arith, big))
 
-  c-is : cOf (plateOf rs vs cs ss) ≡ length cs + length ss
+  c-is : cOf plate ≡ length cs + length ss
   c-is = trailer-word 2 _ (omega arith) (omega (arith, big))
 
-  s-is : sOf (plateOf rs vs cs ss) ≡ length ss
+  s-is : sOf plate ≡ length ss
   s-is = trailer-word 3 _ (omega arith) (omega (arith, big))
 
-  is-right : right (plateOf rs vs cs ss) ≡ true
+  is-right : right plate ≡ true
   is-right =
       rw (
         r-is,
@@ -89,16 +98,17 @@ module _
 
   -- reading answers the sections of the lists
   pub plate-read :
-      readTold (plateOf rs vs cs ss)
+      readTold plate
       ≡ given (sectionsBy (length rs + (length vs + (length cs + length ss))) (length vs + (length cs + length ss)) (length cs + length ss) (length ss))
   unfolding readTold
   plate-read = rw (is-right, r-is, v-is, c-is, s-is)
 
-  taken : (n : ℕ) → n ≡ length (all rs vs cs ss) → wordsOf (take (4 * n) (plateOf rs vs cs ss)) ≡ (all rs vs cs ss)
+  taken : (n : ℕ) → n ≡ length ws → wordsOf (take (4 * n) plate) ≡ ws
   unfolding plateOf
   taken n e =
-      rw (bytes-append (all rs vs cs ss) (trailerOf rs vs cs ss), take-at (bytesOf (all rs vs cs ss)) (bytesOf (trailerOf rs vs cs ss)) (4 * n) (omega (arith, length-bytes (all rs vs cs ss)))) (words-back (all rs vs cs ss) below-all)
+      rw (bytes-append ws ts, take-at (bytesOf ws) (bytesOf ts) (4 * n) (omega (arith, length-bytes ws)))
+      (words-back ws below-all)
 
   -- and copying out answers the lists in order
-  pub plate-copied : copied (plateOf rs vs cs ss) ≡ rs ++ vs ++ cs ++ ss
+  pub plate-copied : copied plate ≡ rs ++ vs ++ cs ++ ss
   plate-copied = rw r-is (taken (length rs + (length vs + (length cs + length ss))) (omega (arith, length-all rs vs cs ss)))

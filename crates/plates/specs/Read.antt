@@ -4,8 +4,9 @@ use mathlib.Core.Bool.{not}
 use mathlib.Core.List.{List, [], _∷_}
 use lib.ListN.{length, take}
 use lib.Dec.{ltb}
+use lib.Seq.{sets}
 use Rattle.buffers.specs.Words.{wordsOf}
-use Rattle.registers.specs.Table.{Told, row, judged, given, refusal, andThen}
+use Rattle.registers.specs.Table.{Told, row, judged, given, refusal, andThen, unlessRefused}
 use Rattle.plates.specs.Plate.{rOf, vOf, cOf, sOf, trailerRule, right, sectionsOf}
 use Rattle.plates.specs.declared.Sections.{Sections}
 use Rattle.plates.specs.declared.Reading.{Reading}
@@ -31,3 +32,7 @@ copyTold file places = andThen (readTold file) (λ sections. judged (row 13 (ltb
 -- All words before the trailer, in order.
 abbrev pub copied : List ℕ → List ℕ
 copied file = wordsOf (take (4 * rOf file) file)
+
+-- What the lent list holds afterwards.
+abbrev pub copyLeaves : List ℕ → List ℕ → List ℕ
+copyLeaves file out = unlessRefused (copyTold file (length out)) out (sets out 0 (copied file))

@@ -2,8 +2,10 @@
 use Prim.Native.Nat.{ℕ}
 use mathlib.Core.List.{List, [], _∷_}
 use lib.Dec.{ltb}
-use Rattle.registers.specs.Table.{Told, row, judged, given, refusal}
-use Rattle.plates.specs.Plate.{mostBytes, plateLength}
+use lib.ListN.{length}
+use lib.Seq.{sets}
+use Rattle.registers.specs.Table.{Told, row, judged, given, refusal, unlessRefused}
+use Rattle.plates.specs.Plate.{mostBytes, plateOf, plateLength}
 use Rattle.plates.specs.declared.Writing.{Writing}
 use Rattle.plates.specs.declared.Writing.the-variants.{Bytes, Refused}
 
@@ -17,3 +19,7 @@ unfoldable pub writeTold : List ℕ → List ℕ → List ℕ → List ℕ → �
 writeTold rs vs cs ss places =
     judged (row 15 (ltb mostBytes (plateLength rs vs cs ss)) 0 ∷ row 13 (ltb places (plateLength rs vs cs ss)) 0 ∷ [])
     (plateLength rs vs cs ss)
+
+-- What the lent memory holds afterwards.
+abbrev pub writeLeaves : List ℕ → List ℕ → List ℕ → List ℕ → List ℕ → List ℕ
+writeLeaves rs vs cs ss out = unlessRefused (writeTold rs vs cs ss (length out)) out (sets out 0 (plateOf rs vs cs ss))

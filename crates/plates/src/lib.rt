@@ -10,10 +10,10 @@ ghost use mathlib.Core.Path.{_≡_};
 ghost use Prim.Native.Nat.{_≤_};
 ghost use lib.ListN.{length};
 ghost use lib.Seq.{sets};
-ghost use Rattle.registers.specs.Table.{told, unlessRefused};
+ghost use Rattle.registers.specs.Table.{told};
 ghost use Rattle.plates.specs.Plate.{mostBytes, plateOf, plateLength, sectionsBy};
-ghost use Rattle.plates.specs.Read.{toldRead, trailerTold, readTold, copyTold, copied};
-ghost use Rattle.plates.specs.Write.{toldWritten, writeTold};
+ghost use Rattle.plates.specs.Read.{toldRead, trailerTold, readTold, copyTold, copyLeaves};
+ghost use Rattle.plates.specs.Write.{toldWritten, writeTold, writeLeaves};
 
 // The most bytes that a plate may have.
 pub const MOST_BYTES: usize = 4_194_304;
@@ -94,7 +94,10 @@ pub fn read(file: &[u8]) -> Reading
 
 // All words before the trailer, in order, copied into lent memory; or 14, then 13.
 pub fn copy_out(file: &[u8], out: &mut [u32]) -> Answer
-    ensures { λ r. ⌜ (told r ≡ copyTold (now (file .entry)) (length (now (out .entry)))) × (now (out .exit) ≡ unlessRefused (copyTold (now (file .entry)) (length (now (out .entry)))) (now (out .entry)) (sets (now (out .entry)) 0 (copied (now (file .entry))))) ⌝ }
+    ensures { λ r. ⌜
+        (told r ≡ copyTold (now (file .entry)) (length (now (out .entry))))
+        × (now (out .exit) ≡ copyLeaves (now (file .entry)) (now (out .entry)))
+        ⌝ }
 {
     match read(file) {
         Reading::Refused(why) => Answer::Refused(why),
@@ -144,11 +147,7 @@ pub fn write(
         (toldWritten r
         ≡ writeTold (now (registers .entry)) (now (video .entry)) (now (cursor .entry)) (now (sound .entry)) (length (now (out .entry))))
         × (now (out .exit)
-        ≡ unlessRefused
-        (writeTold (now (registers .entry)) (now (video .entry)) (now (cursor .entry)) (now (sound .entry)) (length (now (out .entry))))
-        (now (out .entry))
-        (sets (now (out .entry)) 0
-        (plateOf (now (registers .entry)) (now (video .entry)) (now (cursor .entry)) (now (sound .entry)))))
+        ≡ writeLeaves (now (registers .entry)) (now (video .entry)) (now (cursor .entry)) (now (sound .entry)) (now (out .entry)))
         ⌝ }
 {
     let r = registers.len();

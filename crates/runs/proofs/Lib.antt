@@ -4,3 +4,4 @@ pub mod Stored
 pub mod Puts
 pub mod Sheets
 pub mod Texts
+pub mod Unique

@@ -23,14 +23,16 @@ bytes-done l vs at k e = rw (e, drop-length)
 
 -- a text behind another
 pub put-then : {o p q : List ℕ} {at x y : ℕ} (a b : List ℕ) → Put o p at a x → Put p q x b y → Put o q at (a ++ b) y
-put-then a b s t =
+put-then {o} {p} {q} {at} a b s t =
     record {
       stored = t .stored ∙ (rw (s .stored, s .after) (sym (sets-append _ _ a b)));
-      after = rw length-append (omega (arith, s .after, t .after))
+      after = rw length-append (omega (arith, s .after, t .after));
+      inside = omega (arith, t .inside, ap length (s .stored) ∙ length-sets o at a)
     }
 
-pub put-decimal : {o p : List ℕ} {at x : ℕ} (n : ℕ) → x ≡ at + places n → p ≡ sets o at (decimal n) → Put o p at (decimal n) x
-put-decimal n e s = record { stored = s; after = e ∙ rw length-decimal }
+pub put-decimal : {o p : List ℕ} {at x : ℕ} (n : ℕ) → at + places n ≤ length o → x ≡ at + places n → p ≡ sets o at (decimal n)
+  → Put o p at (decimal n) x
+put-decimal n h e s = record { stored = s; after = e ∙ rw length-decimal; inside = omega arith }
 
 pub few-digits : (n : ℕ) → places n ≤ 10
 few-digits n = lowest-most (fitsIn n) 9 1

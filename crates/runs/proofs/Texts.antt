@@ -4,7 +4,7 @@ use mathlib.Core.Path.{_≡_, refl, sym, _∙_, ap}
 use mathlib.Core.Bool.{Bool, true, false}
 use mathlib.Core.List.{List, [], _∷_}
 use native.Mathlib.Numerals.{add-one}
-use native.Mathlib.Nat.{zero-add}
+use native.Mathlib.Nat.{zero-add, sub-zero}
 use native.Mathlib.Omega.{arith}
 use lib.ListN.{length, take, drop, getD}
 use lib.Seq.{sets, ext-getD, getD-take, length-take-le}
@@ -25,16 +25,21 @@ use Rattle.registers.proofs.Tables.{never, given-passes}
 use Rattle.registers.proofs.Exactly.{accepted-setting}
 use Rattle.registers.proofs.Accepted.{Accepted, accepted}
 use Rattle.frame.specs.Frame.{wordsWrong, rasterCell, rasterTold, rasterHeld}
-use Rattle.marks.specs.Marks.{marksOf, marksTold}
+use Rattle.marks.specs.Marks.{marksOf, marksTold, marksSays}
+use Rattle.marks.specs.declared.answer.Marks.{Marks}
+use Rattle.marks.specs.declared.answer.Marks.the-variants as marks
+use Rattle.plates.specs.Read.{readTold}
+use Rattle.plates.specs.declared.Sections.{Sections}
+use Rattle.registers.specs.Load.{loadTold}
 use Rattle.runs.specs.Runs.{lineOf}
 use Rattle.runs.specs.Room.{Put}
-use Rattle.runs.specs.Sheet.{part, pictureTold, sheetTold, Held, OpenedFrom}
-use Rattle.runs.specs.Text.{refusedLine, valuesFrom, rasterLine, headOf, pictureLine, lineFor, lineAt, sheetLine, Sheet}
+use Rattle.runs.specs.Sheet.{mostInput, registerWords, registersOf, videoList, cursorList, pictureTold, sheetTold, Held, OpenedFrom}
+use Rattle.runs.specs.Text.{refusedLine, valuesFrom, rasterLine, headOf, pictureLine, lineFor, lineAt, linesFor, sheetLine, Sheet}
 use Rattle.runs.specs.declared.sheet.Opened.{Opened}
 
 -- nothing stored
 pub put-nothing : (o : List ℕ) → Put o o 0 [] 0
-put-nothing o = record { stored = refl; after = refl }
+put-nothing o = record { stored = refl; after = refl; inside = omega arith }
 
 length-values : (rule : ℕ → ℕ) (k n : ℕ) → length (valuesFrom rule k n) ≡ n
 unfolding valuesFrom
@@ -51,7 +56,7 @@ getD-values rule k (suc n) (suc i) h =
 -- the first n cells of a list painted by a rule are the rule's values
 pub painted-values : (l : List ℕ) (n : ℕ) (rule : ℕ → ℕ) → n ≤ length l → take n (painted l 0 n rule) ≡ valuesFrom rule 0 n
 painted-values l n rule h =
-    let p = paints-of 0 l {f = rule} h refl in
+    let p = paints-of {d = 0} {l = l} {a = 0} {f = rule} h refl in
     let t : length (take n (painted l 0 n rule)) ≡ n = length-take-le n _ (rw length-painted h) in
     ext-getD 0 _ _ (t ∙ sym (length-values rule 0 n))
     (λ i j. getD-take n _ i 0 (omega (arith, t)) ∙ (p .on i (omega arith) (omega (arith, t)) ∙ sym (getD-values rule 0 n i (omega (arith, t)) ∙ ap rule (zero-add i))))
@@ -87,3 +92,80 @@ module _ (g : Registers) (video cursor : List ℕ) (s : Setting) (e : pictureTol
   raster-values y o cells a b h =
       ap (take (s .n .0)) (h ∙ rw (raster-told y (length o) a b, ← accepted-setting g s (picture-parts .0)))
       ∙ painted-values o (s .n .0) (rasterCell g s video cursor y) b
+
+  pub marks-are : (x : Marks) (m : ℕ) → marksSays x ≡ marksTold g video cursor 128 → x ≡ marks.Count m → m ≡ marksOf g s video cursor 128
+  marks-are x m h q = let z : given m ≡ given (marksOf g s video cursor 128) = sym (ap marksSays q) ∙ (h ∙ marks-given 128) in cc
+
+  pub marks-never : {A : Type 0} (x : Marks) (why : Refusal) → marksSays x ≡ marksTold g video cursor 128 → x ≡ marks.Refused why → A
+  marks-never x why h q = never (sym (marks-given 128) ∙ (sym h ∙ ap marksSays q))
+
+  -- the lines of a picture, by its tests
+  pub line-head : (k : ℕ) → k ≡ 0 → pictureLine g s video cursor k ≡ headOf g s video cursor
+  unfolding pictureLine
+  line-head k e = rw (eq-eqb k 0 e)
+
+  pub line-none : (k : ℕ) → (k ≡ 0 → ⊥) → s .v .0 < k → pictureLine g s video cursor k ≡ []
+  unfolding pictureLine
+  line-none k h a = rw (ne-eqb k 0 h, lt-leb _ _ a)
+
+  pub line-raster : (k : ℕ) → (k ≡ 0 → ⊥) → k ≤ s .v .0 → pictureLine g s video cursor k ≡ rasterLine g s video cursor (k - 1)
+  unfolding pictureLine
+  line-raster k h a = rw (ne-eqb k 0 h, le-leb _ _ a)
+
+-- a sheet that is given has a picture that is given
+told-picture : (file : List ℕ) (s : Setting) → sheetTold file ≡ given s → pictureTold (registersOf file) (videoList file) (cursorList file) ≡ given s
+unfolding sheetTold
+told-picture file s e = go (ltb mostInput (length file)) refl (readTold file) refl (loadTold (registerWords file)) refl e
+  where
+    go : (b : Bool) → ltb mostInput (length file) ≡ b → (t : Told Sections) → readTold file ≡ t → (l : Told (Unit {0})) → loadTold (registerWords file) ≡ l
+      → andThen (pick b (refused 15 0) (given (length file))) (λ _. andThen t (λ _. andThen l (λ _. pictureTold (registersOf file) (videoList file) (cursorList file)))) ≡ given s
+      → pictureTold (registersOf file) (videoList file) (cursorList file) ≡ given s
+    go true p t q l w h = never (sym h)
+    go false p (refused n d) q l w h = never (sym h)
+    go false p (given z) q (refused n d) w h = never (sym h)
+    go false p (given z) q (given u) w h = h
+
+-- a plate opened, and its line
+module _ (file words : List ℕ) (k : ℕ) (r : Opened) (o : OpenedFrom file words r) where
+  module _ (why : Refusal) (q : r .checked ≡ checked.Refused why) where
+    pub refused-later : 0 < k → lineAt file k ≡ []
+    unfolding lineAt
+    refused-later h = rw (← o .says, q, ne-eqb k 0 (λ e. omega arith))
+
+    pub refused-first : k ≤ 0 → lineAt file k ≡ refusedLine (numberOf why) (detailOf why)
+    unfolding lineAt
+    refused-first h = rw (← o .says, q, eq-eqb k 0 (omega arith))
+
+  module _ (s : Setting) (q : r .checked ≡ checked.Accepted s) where
+    told-sheet : sheetTold file ≡ given s
+    told-sheet = sym (o .says) ∙ ap checkSays q
+
+    pub sheet-held : Held file words r
+    sheet-held = o .held s told-sheet
+
+    pub sheet-known : Sheet r s words
+    sheet-known =
+        let h = sheet-held in
+        record {
+          video-first = h .video-first;
+          cursor-first = h .cursor-first;
+          inside = h .inside;
+          told = rw (h .video, h .cursor, h .registers) (told-picture file s told-sheet)
+        }
+
+    pub line-sheet : sheetLine r s words k ≡ lineAt file k
+    unfolding lineAt
+    line-sheet = let h = sheet-held in rw (h .video, h .cursor, h .registers, told-sheet)
+
+-- a line of the first n cells, put as a part of them
+pub part-put : {o p : List ℕ} {r : ℕ} (n : ℕ) (cells vs : List ℕ) → take n cells ≡ vs → Put o p 0 (lineOf (take (n - 0) cells)) r → Put o p 0 (lineOf vs) r
+part-put n cells vs e t = rw (← e, ← sub-zero n) t
+
+-- past the last line there is nothing: the whole text is the lines before it, one after the other
+pub no-more : (file : List ℕ) (k : ℕ) → linesFor (sheetTold file) ≤ k → lineAt file k ≡ []
+unfolding lineAt pictureLine
+no-more file k h = go (sheetTold file) h
+  where
+    go : (t : Told Setting) → linesFor t ≤ k → lineFor file k t ≡ []
+    go (given s) h = rw (ne-eqb k 0 (λ e. omega arith), lt-leb (k) (s .v .0) (omega arith))
+    go (refused n d) h = rw (ne-eqb k 0 (λ e. omega arith))

@@ -35,4 +35,8 @@ pub values-by :
 unfolding valuesOf
 values-by left right counter [] = refl
 values-by left right counter (byte ∷ bytes) =
-    rw (eight-at left (channelOf counter) (omega arith), eight-at right (channelOf counter) (omega arith), values-by left right (counterAfter counter 1) bytes)
+    rw (
+      eight-at left (channelOf counter) (omega arith),
+      eight-at right (channelOf counter) (omega arith),
+      values-by left right (counterAfter counter 1) bytes,
+    )

@@ -84,7 +84,9 @@ module _ (g : Registers) (words : List ℕ) (counter : ℕ) (out : List ℤ) (to
   length-is : length values ≡ 8 * length words
   length-is = omega (arith, length-values (leftAt g) (rightAt g) counter (bytesOf words), length-bytes words)
 
-  on-left : (k : ℕ) → k < 4 * length words → getD (sets out 0 values) (2 * k) (pos 0) ≡ valueOf (byteOf words k) (leftAt g (channelOf (counterAfter counter k)))
+  on-left :
+      (k : ℕ) → k < 4 * length words
+      → getD (sets out 0 values) (2 * k) (pos 0) ≡ valueOf (byteOf words k) (leftAt g (channelOf (counterAfter counter k)))
   on-left k h =
       sets-at out values (2 * k) (pos 0) long-enough (omega (arith, length-is))
       ∙ left-value (leftAt g) (rightAt g) counter (bytesOf words) k (omega (arith, length-bytes words))

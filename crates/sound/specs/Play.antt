@@ -3,12 +3,14 @@ use Prim.Native.Nat.{ℕ, _*_}
 use mathlib.Core.List.{List, [], _∷_}
 use lib.Dec.{ltb}
 use lib.IntN.{ℤ}
+use lib.ListN.{length}
+use lib.Seq.{sets}
 use Rattle.buffers.specs.Words.{bytesOf}
-use Rattle.registers.specs.Table.{Told, row, judged, andThen}
+use Rattle.registers.specs.Table.{Told, row, judged, andThen, unlessRefused}
 use Rattle.registers.specs.Sound.{soundTold}
 use Rattle.registers.specs.declared.record.Registers.{Registers}
 use Rattle.sound.specs.Sixths.{leftAt, rightAt}
-use Rattle.sound.specs.Values.{valuesOf}
+use Rattle.sound.specs.Values.{counterAfter, valuesOf}
 
 -- Some words to be played into some places: 8 values for each word.
 unfoldable pub playTold : Registers → ℕ → ℕ → Told (Unit {0})
@@ -17,3 +19,10 @@ playTold g words places = andThen (soundTold g) (λ u. judged (row 13 (ltb place
 -- Bytes leave words low first.
 unfoldable pub playedOf : Registers → ℕ → List ℕ → List ℤ
 playedOf g counter words = valuesOf (leftAt g) (rightAt g) counter (bytesOf words)
+
+-- What the lent memory holds afterwards, and the counter answered: as they were, where the call is refused.
+abbrev pub playLeaves : Registers → List ℕ → ℕ → List ℤ → List ℤ
+playLeaves g words counter out = unlessRefused (playTold g (length words) (length out)) out (sets out 0 (playedOf g counter words))
+
+abbrev pub playCounts : Registers → List ℕ → ℕ → List ℤ → ℕ
+playCounts g words counter out = unlessRefused (playTold g (length words) (length out)) counter (counterAfter counter (4 * length words))

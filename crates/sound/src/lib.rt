@@ -14,12 +14,9 @@ use sixths::right_of;
 use sixths::rights;
 use values::put_words;
 ghost use mathlib.Core.Path.{_≡_};
-ghost use Prim.Native.Nat.{_*_};
 ghost use lib.ListN.{length};
-ghost use lib.Seq.{sets};
-ghost use Rattle.registers.specs.Table.{told, unlessRefused};
-ghost use Rattle.sound.specs.Values.{counterAfter};
-ghost use Rattle.sound.specs.Play.{playTold, playedOf};
+ghost use Rattle.registers.specs.Table.{told};
+ghost use Rattle.sound.specs.Play.{playTold, playLeaves, playCounts};
 ghost use Rattle.sound.specs.Pair.{toldPair, pairTold};
 
 // The counter after the last byte, or as it came where the answer is a refusal.
@@ -58,14 +55,8 @@ pub fn pair(byte: u8, stereo: u8) -> Pairing
 pub fn play(registers: Registers, words: &[u32], counter: u32, out: &mut [i16]) -> Played
     ensures { λ r. ⌜
         (told (r .answer) ≡ playTold registers (length (now (words .entry))) (length (now (out .entry))))
-        × (r .counter
-        ≡ unlessRefused (playTold registers (length (now (words .entry))) (length (now (out .entry))))
-        counter
-        (counterAfter counter (4 * length (now (words .entry)))))
-        × (now (out .exit)
-        ≡ unlessRefused (playTold registers (length (now (words .entry))) (length (now (out .entry))))
-        (now (out .entry))
-        (sets (now (out .entry)) 0 (playedOf registers counter (now (words .entry)))))
+        × (r .counter ≡ playCounts registers (now (words .entry)) counter (now (out .entry)))
+        × (now (out .exit) ≡ playLeaves registers (now (words .entry)) counter (now (out .entry)))
         ⌝ }
 {
     match registers.check_sound() {

@@ -3,38 +3,28 @@ use Rattle.frame.specs.Ink.{pairIn}
 use borrow.Author.Needs.{needs}
 use Rattle.frame.proofs.cursor.pair.Statement.{statement}
 use Rattle.frame.proofs.cursor.pair.Tie as tie
-use Rattle.frame.proofs.cursor.pair.Reads as reads
-use Rattle.frame.proofs.cursor.pair.Lts as lts
 
--- src/cursor.rt:21:14
 add-result : tie.Need-add-result
 add-result c = search needs
 
--- src/cursor.rt:21:7
 mul-result : tie.Need-mul-result
 mul-result c = search needs
 
--- src/cursor.rt:21:7
 shared-slice-read-result : tie.Need-shared-slice-read-result
 shared-slice-read-result c = search needs
 
--- src/cursor.rt:21:34
 mul-result-2 : tie.Need-mul-result-2
 mul-result-2 c = search needs
 
--- src/cursor.rt:21:34
 cast-result : tie.Need-cast-result
 cast-result c = search needs
 
--- src/cursor.rt:21:7
 shr-result : tie.Need-shr-result
 shr-result c = search needs
 
--- src/cursor.rt:21:5
 cast-result-2 : tie.Need-cast-result-2
 cast-result-2 c = search needs
 
--- src/cursor.rt:17:1
 returns : tie.Need-returns
 unfolding pairIn
 returns c = refl

@@ -2,16 +2,12 @@ use native.Mathlib.Omega.{arith}
 use borrow.Author.Needs.{needs}
 use Rattle.frame.proofs.Pointer.{pair-small, pair-stored, pair-clear}
 use Rattle.frame.specs.Ink.{pairInk}
-use lib.ListN.{length}
 use Prim.Native.Nat.{_+_, _-_, _≤_}
 use mathlib.Core.Logic.{⊎-elim}
 use mathlib.Core.Path.{_≡_}
 use Rattle.buffers.proofs.Paints.{Paints, paint-none, paints-painted}
 use Rattle.frame.proofs.cursor.pairs.Statement.{statement}
 use Rattle.frame.proofs.cursor.pairs.Tie as tie
-use Rattle.frame.proofs.cursor.pairs.Reads as reads
-use Rattle.frame.proofs.cursor.pairs.Lts as lts
-use Rattle.frame.proofs.cursor.pair.Reads as pair-reads
 
 abbrev Inv-loop : tie.InvT-loop
 Inv-loop out₀ start low high pens cursor first i₀ out i = (low ≤ i) × (i ≤ high) × Paints 0 out₀ out (start + low) (start + i) (pairInk pens cursor first start out₀)
@@ -19,57 +15,47 @@ Inv-loop out₀ start low high pens cursor first i₀ out i = (low ≤ i) × (i 
 abbrev μ-loop : tie.MeasureT-loop
 μ-loop out₀ start low high pens cursor first i₀ out i = high - i
 
--- src/cursor.rt:30:5
 loop-holds : tie.Need-loop-holds Inv-loop μ-loop
 loop-holds c = (omega arith, omega arith, paint-none _ _)
 
--- src/cursor.rt:31:13
 pair-requires : tie.Need-pair-requires Inv-loop μ-loop
 pair-requires c κs = search needs
 
--- src/cursor.rt:33:30
 mul-out : tie.Need-mul-out Inv-loop μ-loop
 mul-out c = omega (arith, c .before .pair .ensures, pair-small (c .before .before .before .before .before .before .args .cursor .now) (c .before .before .before .before .before .before .args .first) (c .before .before .before .loop .i))
 
--- src/cursor.rt:33:30
 element-copy-out-out : tie.Need-element-copy-out-out Inv-loop μ-loop
 element-copy-out-out c = omega (arith, c .before .pair .ensures, pair-small (c .before .before .before .before .before .before .args .cursor .now) (c .before .before .before .before .before .before .args .first) (c .before .before .before .loop .i))
 
--- src/cursor.rt:33:17
 add-out : tie.Need-add-out Inv-loop μ-loop
 add-out c = search needs
 
--- src/cursor.rt:33:13
 mul-out-2 : tie.Need-mul-out-2 Inv-loop μ-loop
 mul-out-2 c = search needs
 
--- src/cursor.rt:33:13
 slice-write-out : tie.Need-slice-write-out Inv-loop μ-loop
 slice-write-out c = search needs
 
--- src/cursor.rt:35:9
 add-i : tie.Need-add-i Inv-loop μ-loop
 add-i c = search needs
 
--- src/cursor.rt:30:5
 loop-less : tie.Need-loop-less Inv-loop μ-loop
 loop-less c = search needs
 
--- src/cursor.rt:30:5
 loop-again : tie.Need-loop-again Inv-loop μ-loop
 loop-again c = let s = c .before .before .before .before .before .before in
-    let l = c .before .before .before .loop in
-    (omega arith, omega arith,
-    ⊎-elim
-    (λ w. rw (w .2) (pair-stored _ _ _ _ _ _ _ _ _ (c .before .pair .ensures) (l .inv .0) (w .0 .taken) (omega arith) (l .inv .2)))
-    (λ w. rw (w .1) (pair-clear _ _ _ _ _ _ _ _ _ (c .before .pair .ensures) (l .inv .0) (w .0 .left) (l .inv .2)))
-    (c .if1 .came))
+    let l = c .before .before .before .loop in (
+      omega arith,
+      omega arith,
+      ⊎-elim
+          (λ w. rw (w .2) (pair-stored _ _ _ _ _ _ _ _ _ (c .before .pair .ensures) (l .inv .0) (w .0 .taken) (omega arith) (l .inv .2)))
+          (λ w. rw (w .1) (pair-clear _ _ _ _ _ _ _ _ _ (c .before .pair .ensures) (l .inv .0) (w .0 .left) (l .inv .2)))
+          (c .if1 .came),
+    )
 
--- src/cursor.rt:25:1
 same-length : tie.Need-same-length Inv-loop μ-loop
 same-length c = search needs
 
--- src/cursor.rt:25:1
 returns : tie.Need-returns Inv-loop μ-loop
 returns c = let s = c .before .before .before .before in
     let e : c .before .loop .i ≡ s .args .high = omega arith in

@@ -4,59 +4,44 @@ use mathlib.Core.Path.{refl}
 use borrow.Author.Needs.{needs}
 use Rattle.frame.proofs.decode.shown.Statement.{statement}
 use Rattle.frame.proofs.decode.shown.Tie as tie
-use Rattle.frame.proofs.decode.shown.Reads as reads
-use Rattle.frame.proofs.decode.shown.Lts as lts
-use Rattle.frame.proofs.decode.words.Reads as words-reads
 
--- src/pixels.rt:62:9
 words-requires : tie.Need-words-requires
 words-requires c κs = (rw (c .before .if1 .taken) at (c .before .before .before .before .pre .0), omega arith, omega arith, refl)
 
--- src/pixels.rt:63:9
 same-length : tie.Need-same-length
 same-length c = search needs
 
--- src/pixels.rt:63:9
 returns : tie.Need-returns
 returns c = rw (c .before .before .before .before .if1 .taken) (c .before .before .words .ensures)
 
--- src/pixels.rt:66:9
 words-requires-2 : tie.Need-words-requires-2
 words-requires-2 c κs = (rw (c .before .if2 .taken) at (c .before .before .before .before .before .pre .0), omega arith, omega arith, refl)
 
--- src/pixels.rt:67:9
 same-length-2 : tie.Need-same-length-2
 same-length-2 c = search needs
 
--- src/pixels.rt:67:9
 returns-2 : tie.Need-returns-2
 returns-2 c = rw (c .before .before .before .before .if2 .taken) (c .before .before .words2 .ensures)
 
--- src/pixels.rt:70:9
 words-requires-3 : tie.Need-words-requires-3
 words-requires-3 c κs = (rw (c .before .if3 .taken) at (c .before .before .before .before .before .before .pre .0), omega arith, omega arith, refl)
 
--- src/pixels.rt:71:9
 same-length-3 : tie.Need-same-length-3
 same-length-3 c = search needs
 
--- src/pixels.rt:71:9
 returns-3 : tie.Need-returns-3
 returns-3 c = rw (c .before .before .before .before .if3 .taken) (c .before .before .words3 .ensures)
 
--- src/pixels.rt:73:5
-words-requires-4 : tie.Need-words-requires-4
-words-requires-4 c κs = let e = depth-one (c .before .before .before .before .before .before .pre .1) (c .before .before .before .if1 .left) (c .before .before .if2 .left) (c .before .if3 .left) in
-    (rw e at (c .before .before .before .before .before .before .pre .0), omega arith, omega arith, refl)
+bit-words-requires : tie.Need-bit-words-requires
+bit-words-requires c κs =
+    rw (depth-one (c .before .before .before .before .before .before .pre .1) (c .before .before .before .if1 .left) (c .before .before .if2 .left) (c .before .if3 .left)) at (c .before .before .before .before .before .before .pre .0)
 
--- src/pixels.rt:57:1
 same-length-4 : tie.Need-same-length-4
 same-length-4 c = search needs
 
--- src/pixels.rt:57:1
 returns-4 : tie.Need-returns-4
 returns-4 c = let e = depth-one (c .before .before .before .before .before .before .before .before .before .pre .1) (c .before .before .before .before .before .before .if1 .left) (c .before .before .before .before .before .if2 .left) (c .before .before .before .before .if3 .left) in
-    rw e (c .before .before .words4 .ensures)
+    rw e (c .before .before .bit-words .ensures)
 
 pub shown-spec : {M : Type 1} → statement M
 shown-spec =
@@ -71,6 +56,6 @@ shown-spec =
     words-requires-3
     same-length-3
     returns-3
-    words-requires-4
+    bit-words-requires
     same-length-4
     returns-4)

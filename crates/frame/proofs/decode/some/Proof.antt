@@ -8,8 +8,6 @@ use mathlib.Core.Path.{_≡_, ap, _∙_}
 use Rattle.buffers.proofs.Paints.{Paints, paint-none, paint-more, paints-painted}
 use Rattle.frame.proofs.decode.some.Statement.{statement}
 use Rattle.frame.proofs.decode.some.Tie as tie
-use Rattle.frame.proofs.decode.some.Reads as reads
-use Rattle.frame.proofs.decode.some.Lts as lts
 
 abbrev Inv-loop : tie.InvT-loop
 Inv-loop out₀ at count w d table m end rest₀ k₀ out rest k = (at ≤ k) × (k ≤ end) × (rest ≡ w / 2 ^ ((k - at) * d)) × Paints 0 out₀ out at k (from at (wordInk table w d))
@@ -17,66 +15,54 @@ Inv-loop out₀ at count w d table m end rest₀ k₀ out rest k = (at ≤ k) ×
 abbrev μ-loop : tie.MeasureT-loop
 μ-loop out₀ at count w d table m end rest₀ k₀ out rest k = end - k
 
--- src/pixels.rt:14:13
 shl-m : tie.Need-shl-m Inv-loop μ-loop
 shl-m c = search needs
 
--- src/pixels.rt:15:15
 add-end : tie.Need-add-end Inv-loop μ-loop
 add-end c = search needs
 
--- src/pixels.rt:18:5
 loop-holds : tie.Need-loop-holds Inv-loop μ-loop
 loop-holds c = (omega arith, omega arith, whole-word _ _ _, paint-none _ _)
 
--- src/pixels.rt:19:25
 rem-out : tie.Need-rem-out Inv-loop μ-loop
 rem-out c = rw (one-shifted _ (c .before .before .pre .1)) (pow-pos _)
 
--- src/pixels.rt:19:24
 cast-out : tie.Need-cast-out Inv-loop μ-loop
 cast-out c = omega (arith, low-bits (c .before .loop .rest) (c .before .before .args .d) (c .before .before .pre .1))
 
--- src/pixels.rt:19:18
 mul-out : tie.Need-mul-out Inv-loop μ-loop
 mul-out c = omega (arith, low-bits (c .before .loop .rest) (c .before .before .args .d) (c .before .before .pre .1))
 
--- src/pixels.rt:19:18
 element-copy-out-out : tie.Need-element-copy-out-out Inv-loop μ-loop
 element-copy-out-out c = omega (arith, low-bits (c .before .loop .rest) (c .before .before .args .d) (c .before .before .pre .1))
 
--- src/pixels.rt:19:9
 mul-out-2 : tie.Need-mul-out-2 Inv-loop μ-loop
 mul-out-2 c = search needs
 
--- src/pixels.rt:19:9
 slice-write-out : tie.Need-slice-write-out Inv-loop μ-loop
 slice-write-out c = search needs
 
--- src/pixels.rt:20:16
 shr-rest : tie.Need-shr-rest Inv-loop μ-loop
 shr-rest c = search needs
 
--- src/pixels.rt:21:9
 add-k : tie.Need-add-k Inv-loop μ-loop
 add-k c = search needs
 
--- src/pixels.rt:18:5
 loop-less : tie.Need-loop-less Inv-loop μ-loop
 loop-less c = search needs
 
--- src/pixels.rt:18:5
 loop-again : tie.Need-loop-again Inv-loop μ-loop
 loop-again c = let s = c .before .before .before in
-    let l = c .before .before .loop in
-    (omega arith, omega arith, ap (λ (n : ℕ). n / 2 ^ (s .args .d)) (l .inv .2) ∙ next-from _ _ _ _ (l .inv .0),
-    paint-more _ (omega arith) (omega arith) (pixel-ink _ _ _ _ _ _ (s .pre .1) (l .inv .2)) (l .inv .3))
+    let l = c .before .before .loop in (
+      omega arith,
+      omega arith,
+      ap (λ (n : ℕ). n / 2 ^ (s .args .d)) (l .inv .2) ∙ next-from _ _ _ _ (l .inv .0),
+      paint-more _ (omega arith) (omega arith) (pixel-ink _ _ _ _ _ _ (s .pre .1) (l .inv .2)) (l .inv .3),
+    )
 
--- src/pixels.rt:10:1
 same-length : tie.Need-same-length Inv-loop μ-loop
 same-length c = search needs
 
--- src/pixels.rt:10:1
 returns : tie.Need-returns Inv-loop μ-loop
 returns c = let s = c .before .before in
     let e : c .before .loop .k ≡ s .args .at + s .args .count = omega arith in

@@ -5,31 +5,22 @@ use Rattle.registers.proofs.Words.{depth-most}
 use borrow.Author.Needs.{needs}
 use Rattle.frame.proofs.display.raster_words.Statement.{statement}
 use Rattle.frame.proofs.display.raster_words.Tie as tie
-use Rattle.frame.proofs.display.raster_words.Reads as reads
-use Rattle.frame.proofs.display.raster_words.Lts as lts
-use Rattle.frame.proofs.units.wide.Reads as wide-reads
 
--- src/display.rt:18:6
 wide-requires : tie.Need-wide-requires
 wide-requires c κs = search needs
 
--- src/display.rt:18:19
 wide-requires-2 : tie.Need-wide-requires-2
 wide-requires-2 c κs = search needs
 
--- src/display.rt:18:6
 sub-result : tie.Need-sub-result
 sub-result c = search needs
 
--- src/display.rt:18:34
 cast-result : tie.Need-cast-result
 cast-result c = omega (arith, depth-most (c .before .before .before .pre .depth))
 
--- src/display.rt:18:5
 mul-result : tie.Need-mul-result
 mul-result c = omega (arith, rw (← c .before .before .wide .ensures, ← c .before .wide2 .ensures) at (bits-most _ (c .before .before .before .pre)))
 
--- src/display.rt:14:1
 returns : tie.Need-returns
 unfolding rasterWords
 returns c = simp (c .before .before .wide .ensures, c .before .wide2 .ensures)

@@ -3,29 +3,19 @@ use Rattle.frame.proofs.Ready.{raster-law}
 use borrow.Author.Needs.{needs}
 use Rattle.frame.proofs.inks.paint_raster.Statement.{statement}
 use Rattle.frame.proofs.inks.paint_raster.Tie as tie
-use Rattle.frame.proofs.inks.paint_raster.Reads as reads
-use Rattle.frame.proofs.inks.paint_raster.Lts as lts
-use Rattle.frame.proofs.inks.pens.Reads as pens-reads
-use Rattle.frame.proofs.inks.shades.Reads as shades-reads
-use Rattle.frame.proofs.rows.row.Reads as row-reads
 
--- src/inks.rt:53:17
 shades-requires : tie.Need-shades-requires
 shades-requires c κs = depth-most (c .before .before .before .pre .accepted .depth)
 
--- src/inks.rt:54:16
 pens-requires : tie.Need-pens-requires
 pens-requires c κs = search needs
 
--- src/inks.rt:55:5
 row-requires : tie.Need-row-requires
 row-requires c κs = search needs
 
--- src/inks.rt:49:1
 same-length : tie.Need-same-length
 same-length c = search needs
 
--- src/inks.rt:49:1
 returns : tie.Need-returns
 returns c = let s = c .before .before .before .before .before .before .before .before .before .before .before in
     raster-law _ _ _ _ _ _ _ _ (depth-most (s .pre .accepted .depth)) (c .before .before .before .before .before .before .pens .ensures) (c .before .before .before .before .before .before .before .shades .ensures) _ (s .pre .room) (c .before .before .row .ensures)

@@ -4,37 +4,25 @@ use Rattle.frame.proofs.Calls.{lent-by}
 use borrow.Author.Needs.{needs}
 use Rattle.frame.proofs.judged.judged_frame.Statement.{statement}
 use Rattle.frame.proofs.judged.judged_frame.Tie as tie
-use Rattle.frame.proofs.judged.judged_frame.Reads as reads
-use Rattle.frame.proofs.judged.judged_frame.Lts as lts
-use Rattle.frame.proofs.inks.paint_frame.Reads as paint-frame-reads
-use Rattle.frame.proofs.judged.frame_cells.Reads as frame-cells-reads
-use Rattle.frame.proofs.judged.words_wrong.Reads as words-wrong-reads
 
--- src/judged.rt:36:8
 words-wrong-requires : tie.Need-words-wrong-requires
 words-wrong-requires c κs = search needs
 
--- src/judged.rt:37:9
 returns : tie.Need-returns
 returns c = (simp (sym (c .before .words-wrong .ensures) ∙ c .if1 .taken), refl)
 
--- src/judged.rt:39:20
 frame-cells-requires : tie.Need-frame-cells-requires
 frame-cells-requires c κs = search needs
 
--- src/judged.rt:40:9
 returns-2 : tie.Need-returns-2
 returns-2 c = (simp (sym (c .before .before .before .words-wrong .ensures) ∙ c .before .before .if1 .left, lt-ltb _ _ (rw (c .before .frame-cells .ensures) at (c .if2 .taken))), refl)
 
--- src/judged.rt:42:5
 paint-frame-requires : tie.Need-paint-frame-requires
 paint-frame-requires c κs = lent-by (c .before .before .before .before .before .before .before .before .pre) (rw (c .before .before .frame-cells .ensures) at (c .before .if2 .left)) (sym (c .before .before .before .before .words-wrong .ensures) ∙ c .before .before .before .if1 .left)
 
--- src/judged.rt:31:1
 same-length : tie.Need-same-length
 same-length c = search needs
 
--- src/judged.rt:31:1
 returns-3 : tie.Need-returns-3
 returns-3 c = (simp (sym (c .before .before .before .before .before .before .before .words-wrong .ensures) ∙ c .before .before .before .before .before .before .if1 .left, le-ltb _ _ (rw (c .before .before .before .before .before .frame-cells .ensures) at (c .before .before .before .before .if2 .left))), c .before .before .paint-frame .ensures)
 

@@ -4,72 +4,51 @@ use Rattle.frame.proofs.Stretches.{border-law, display-middle-law, rast
 use borrow.Author.Needs.{needs}
 use Rattle.frame.proofs.plain.middle.Statement.{statement}
 use Rattle.frame.proofs.plain.middle.Tie as tie
-use Rattle.frame.proofs.plain.middle.Reads as reads
-use Rattle.frame.proofs.plain.middle.Lts as lts
-use Rattle.frame.proofs.display.display.Reads as display-reads
-use Rattle.frame.proofs.fill.fill.Reads as fill-reads
-use Rattle.frame.proofs.units.displayed.Reads as displayed-reads
-use Rattle.frame.proofs.units.wide.Reads as wide-reads
 
--- src/plain.rt:29:19
 wide-requires : tie.Need-wide-requires
 wide-requires c κs = search needs
 
--- src/plain.rt:29:14
 add-bs : tie.Need-add-bs
 add-bs c = search needs
 
--- src/plain.rt:30:19
 wide-requires-2 : tie.Need-wide-requires-2
 wide-requires-2 c κs = search needs
 
--- src/plain.rt:30:14
 add-be : tie.Need-add-be
 add-be c = search needs
 
--- src/plain.rt:31:18
 element-copy-out-border : tie.Need-element-copy-out-border
 element-copy-out-border c = search needs
 
--- src/plain.rt:32:8
 displayed-requires : tie.Need-displayed-requires
 displayed-requires c κs = search needs
 
--- src/plain.rt:33:28
 wide-requires-3 : tie.Need-wide-requires-3
 wide-requires-3 c κs = search needs
 
--- src/plain.rt:33:23
 add-fill : tie.Need-add-fill
 add-fill c = search needs
 
--- src/plain.rt:33:9
 fill-requires : tie.Need-fill-requires
 fill-requires c κs = search needs
 
--- src/plain.rt:34:9
 display-requires : tie.Need-display-requires
 display-requires c κs = let s = c .before .before .before .before .before .before .before .before .before .before .before .before .before in
     let rows = within-true _ _ _ (sym (c .before .before .before .before .before .before .before .displayed .ensures) ∙ c .before .before .before .before .before .before .if1 .taken) in
     (raster-kept _ _ _ (s .pre .0) (c .before .before .before .fill .ensures), rows .0, rows .1)
 
--- src/plain.rt:35:24
 wide-requires-4 : tie.Need-wide-requires-4
 wide-requires-4 c κs = search needs
 
--- src/plain.rt:35:19
 add-fill-2 : tie.Need-add-fill-2
 add-fill-2 c = search needs
 
--- src/plain.rt:35:9
 fill-requires-2 : tie.Need-fill-requires-2
 fill-requires-2 c κs = search needs
 
--- src/plain.rt:36:9
 same-length : tie.Need-same-length
 same-length c = search needs
 
--- src/plain.rt:36:9
 returns : tie.Need-returns
 returns c = let s = c .before .before .before .before .before .before .before .before .before .before .before .before .before .before .before .before .before .before .before .before .before in
     display-middle-law (s .args .s) (s .pre .0 .accepted) _ _ _ _ _ _ _ _ _ _ _ _ _ (s .pre .0 .room)
@@ -77,15 +56,12 @@ returns c = let s = c .before .before .before .before .before .before .before .b
     (c .before .before .before .before .before .before .before .before .before .before .before .before .before .before .before .before .before .before .wide .ensures) (c .before .before .before .before .before .before .before .before .before .before .before .before .wide3 .ensures) (c .before .before .before .wide4 .ensures) (c .before .before .before .before .before .before .before .before .before .before .before .before .before .before .before .before .before .wide2 .ensures)
     (c .before .before .before .before .before .before .before .before .before .before .before .fill .ensures) (c .before .before .before .before .before .before .before .display .ensures) (c .before .before .fill2 .ensures)
 
--- src/plain.rt:38:5
 fill-requires-3 : tie.Need-fill-requires-3
 fill-requires-3 c κs = search needs
 
--- src/plain.rt:25:1
 same-length-2 : tie.Need-same-length-2
 same-length-2 c = search needs
 
--- src/plain.rt:25:1
 returns-2 : tie.Need-returns-2
 returns-2 c = let s = c .before .before .before .before .before .before .before .before .before .before .before in
     border-law (s .args .s) (s .pre .0 .accepted) _ _ _ _ _ _ _ _ _ (s .pre .0 .room) (s .pre .1) (s .pre .2)

@@ -3,16 +3,11 @@ use native.Mathlib.Nat.{mul-comm}
 use native.Mathlib.Omega.{arith}
 use Rattle.frame.proofs.Rasters.{lent-row, row-room, row-turn}
 use Rattle.frame.specs.Ink.{frameInk}
-use lib.ListN.{length}
-use Prim.Native.Nat.{ℕ, _+_, _-_, _*_, _≤_}
-use mathlib.Core.Path.{_≡_, sym, ap, _∙_}
+use Prim.Native.Nat.{ℕ, _-_, _*_, _≤_}
+use mathlib.Core.Path.{_≡_, ap, _∙_}
 use Rattle.buffers.proofs.Paints.{Paints, paint-none, paints-painted}
 use Rattle.frame.proofs.rows.rows.Statement.{statement}
 use Rattle.frame.proofs.rows.rows.Tie as tie
-use Rattle.frame.proofs.rows.rows.Reads as reads
-use Rattle.frame.proofs.rows.rows.Lts as lts
-use Rattle.frame.proofs.rows.row.Reads as row-reads
-use Rattle.frame.proofs.units.wide.Reads as wide-reads
 
 abbrev Inv-loop : tie.InvT-loop
 Inv-loop out₀ s pens table video cursor n at₀ y₀ out at y = (y ≤ s .v .0) × (at ≡ y * s .n .0) × Paints 0 out₀ out 0 at (frameInk s pens table video cursor)
@@ -20,48 +15,41 @@ Inv-loop out₀ s pens table video cursor n at₀ y₀ out at y = (y ≤ s .v .0
 abbrev μ-loop : tie.MeasureT-loop
 μ-loop out₀ s pens table video cursor n at₀ y₀ out at y = s .v .0 - y
 
--- src/rows.rt:25:9
 wide-requires : tie.Need-wide-requires Inv-loop μ-loop
 wide-requires c κs = search needs
 
--- src/rows.rt:28:5
 loop-holds : tie.Need-loop-holds Inv-loop μ-loop
 loop-holds c = (omega arith, omega arith, paint-none _ _)
 
--- src/rows.rt:29:9
 row-requires : tie.Need-row-requires Inv-loop μ-loop
 row-requires c κs = let s = c .before .before .before .before .before .before .before .before in
     let l = c .before .before .before .loop in
     lent-row (l .y) _ (s .pre) (l .inv .2 .len) (c .before .if1 .taken) (l .inv .1)
 
--- src/rows.rt:30:9
 add-at : tie.Need-add-at Inv-loop μ-loop
 add-at c = let s = c .before .before .before .before .before .before .before .before .before .before .before in
     let l = c .before .before .before .before .before .before .loop in
     omega (arith, c .before .before .before .before .before .before .before .wide .ensures, l .inv .1, s .pre .room, row-room (s .args .s) (s .pre .accepted) (l .y) (c .before .before .before .before .if1 .taken))
 
--- src/rows.rt:31:9
 add-y : tie.Need-add-y Inv-loop μ-loop
 add-y c = search needs
 
--- src/rows.rt:28:5
 loop-less : tie.Need-loop-less Inv-loop μ-loop
 loop-less c = search needs
 
--- src/rows.rt:28:5
 loop-again : tie.Need-loop-again Inv-loop μ-loop
 loop-again c = let s = c .before .before .before .before .before .before .before .before .before .before .before in
-    let l = c .before .before .before .before .before .before .loop in
-    (omega (arith, c .before .before .before .before .if1 .taken), omega (arith, c .before .before .before .before .before .before .before .wide .ensures, l .inv .1),
-    rw (c .before .before .before .before .before .before .before .wide .ensures)
-    (row-turn (s .args .s) (s .pre .accepted) (l .y) _ _ _ _ _ (l .inv .1) _ _ _ (omega (arith, l .inv .1, s .pre .room, row-room (s .args .s) (s .pre .accepted) (l .y) (c .before .before .before .before .if1 .taken)))
-    (l .inv .2) (c .before .before .row .ensures)))
+    let l = c .before .before .before .before .before .before .loop in (
+      omega (arith, c .before .before .before .before .if1 .taken),
+      omega (arith, c .before .before .before .before .before .before .before .wide .ensures, l .inv .1),
+      rw (c .before .before .before .before .before .before .before .wide .ensures)
+          (row-turn (s .args .s) (s .pre .accepted) (l .y) _ _ _ _ _ (l .inv .1) _ _ _ (omega (arith, l .inv .1, s .pre .room, row-room (s .args .s) (s .pre .accepted) (l .y) (c .before .before .before .before .if1 .taken)))
+          (l .inv .2) (c .before .before .row .ensures)),
+    )
 
--- src/rows.rt:21:1
 same-length : tie.Need-same-length Inv-loop μ-loop
 same-length c = c .before .before .loop .inv .2 .len
 
--- src/rows.rt:21:1
 returns : tie.Need-returns Inv-loop μ-loop
 returns c = let s = c .before .before .before .before .before .before .before in
     let l = c .before .before .loop in

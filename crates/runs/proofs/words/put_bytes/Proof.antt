@@ -44,7 +44,7 @@ same-length : tie.Need-same-length Inv-loop μ-loop
 same-length c = c .before .loop .inv .1
 
 returns : tie.Need-returns Inv-loop μ-loop
-returns c = let e : c .before .loop .k ≡ length (c .before .before .args .text .now) = omega arith in record { stored = sym (bytes-done (c .before .loop .out) (c .before .before .args .text .now) (c .before .before .args .at) (c .before .loop .k) e) ∙ c .before .loop .inv .2; after = omega arith }
+returns c = let e : c .before .loop .k ≡ length (c .before .before .args .text .now) = omega arith in record { stored = sym (bytes-done (c .before .loop .out) (c .before .before .args .text .now) (c .before .before .args .at) (c .before .loop .k) e) ∙ c .before .loop .inv .2; after = omega arith; inside = omega arith }
 
 pub put-bytes-spec : {M : Type 1} → statement M
 put-bytes-spec =

@@ -1,0 +1,21 @@
+-- The paper's small plate, raster 3: border cells 36608, display cells 40960 to 40967; the lent cell beyond the raster's is untouched.
+use mathlib.Core.Path.{_≡_, refl}
+use mathlib.Core.List.{List, [], _∷_, _++_}
+use lib.ListN.{replicate}
+use Rattle.buffers.specs.Painted.{eachFrom, painted}
+use Rattle.registers.specs.Record.{storedOf}
+use Rattle.registers.specs.Load.{applied}
+use Rattle.registers.specs.Lowest.{lowest}
+use Rattle.registers.specs.Setting.{settingOf, videoWords, cursorWords}
+use Rattle.registers.specs.Check.{checkTold}
+use Rattle.registers.specs.Small.{smallRegisters}
+use Rattle.frame.specs.Pixel.{pixel, cursorPair}
+use Rattle.frame.specs.Cell.{plainCode, covered, code, cell}
+use Rattle.frame.specs.Frame.{rasterCell, rasterTold, rasterHeld}
+
+pub raster-three : rasterHeld smallRegisters (0x76543210 ∷ []) [] 3 (replicate 33 7)
+    ≡ replicate 4 8192 ++ replicate 3 0 ++ replicate 4 36608
+    ++ (40960 ∷ 40961 ∷ 40962 ∷ 40963 ∷ 40964 ∷ 40965 ∷ 40966 ∷ 40967 ∷ [])
+    ++ replicate 4 36608 ++ replicate 9 0 ++ (7 ∷ [])
+unfolding eachFrom painted storedOf applied lowest settingOf videoWords cursorWords checkTold pixel cursorPair plainCode covered code cell rasterCell rasterTold rasterHeld
+raster-three = refl
