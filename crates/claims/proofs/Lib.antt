@@ -4,3 +4,7 @@ pub mod Cells
 pub mod Runs
 pub mod Lists
 pub mod Picture
+pub mod Tables
+pub mod Refusals
+pub mod Demands
+pub mod Cases
