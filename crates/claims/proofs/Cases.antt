@@ -15,19 +15,24 @@ use Rattle.sound.specs.Amplitude.{amplitudeOf, signedOf, valueOf}
 use Rattle.sound.specs.Pair.{pairTold}
 use Rattle.claims.specs.Marked.{AllHold, markedCases}
 
+infixr 4 _and_
+_and_ : {A B : Type 0} → A → B → A × B
+p and q = (p, q)
+
 pub all-marked-cases : AllHold markedCases
 unfolding eachFrom painted storedOf applied lowest settingOf videoWords cursorWords checkTold pixel cursorPair plainCode covered code cell frameTold rasterCell rasterTold rasterHeld amplitudeOf signedOf valueOf pairTold
 all-marked-cases =
-    ((refl, refl),
-    ((refl, refl),
-    ((refl, refl, refl, refl),
-    ((refl, refl, refl),
-    ((refl, refl),
-    ((refl, refl, refl, refl),
-    (refl,
-    ((refl, refl),
-    ((refl, refl),
-    (refl,
-    ((refl, refl, refl),
-    ((refl, refl, refl, refl),
-    ((refl, refl, refl), tt)))))))))))))
+    (refl, refl)
+    and (refl, refl)
+    and (refl, refl, refl, refl)
+    and (refl, refl, refl)
+    and (refl, refl)
+    and (refl, refl, refl, refl)
+    and refl
+    and (refl, refl)
+    and (refl, refl)
+    and refl
+    and (refl, refl, refl)
+    and (refl, refl, refl, refl)
+    and (refl, refl, refl)
+    and tt

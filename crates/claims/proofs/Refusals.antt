@@ -206,10 +206,10 @@ copy-out-refuses κs a x s p = (by-table tt _ (p .0 ∙ copy-told (now (a .0)) (
 
 pub write-refuses : Always 5 write-kinds.ps write-kinds.r
     (λ κs a x s.
-        ByTable (toldWritten x)
-        (writeRows (now (a .0)) (now (a .1 .0)) (now (a .1 .1 .0)) (now (a .1 .1 .1 .0)) (length (now (a .1 .1 .1 .1 .0))))
-        (plateLength (now (a .0)) (now (a .1 .0)) (now (a .1 .1 .0)) (now (a .1 .1 .1 .0)))
-        × Kept (toldWritten x) (now (a .1 .1 .1 .1 .0)) (now (s .1 .1 .1 .1 .0))) write-reads.Post
+    ByTable (toldWritten x)
+    (writeRows (now (a .0)) (now (a .1 .0)) (now (a .1 .1 .0)) (now (a .1 .1 .1 .0)) (length (now (a .1 .1 .1 .1 .0))))
+    (plateLength (now (a .0)) (now (a .1 .0)) (now (a .1 .1 .0)) (now (a .1 .1 .1 .0)))
+    × Kept (toldWritten x) (now (a .1 .1 .1 .1 .0)) (now (s .1 .1 .1 .1 .0))) write-reads.Post
 unfolding writeTold
 write-refuses κs a x s p =
     (by-table _ (writeRows (now (a .0)) (now (a .1 .0)) (now (a .1 .1 .0)) (now (a .1 .1 .1 .0)) (length (now (a .1 .1 .1 .1 .0)))) (p .0), kept (sets (now (a .1 .1 .1 .1 .0)) 0 (plateOf (now (a .0)) (now (a .1 .0)) (now (a .1 .1 .0)) (now (a .1 .1 .1 .0)))) (p .0) (p .1))
