@@ -133,7 +133,7 @@ module _ (file words : List ℕ) (k : ℕ) (r : Opened) (o : OpenedFrom file wor
     refused-first h = rw (← o .says, q, eq-eqb k 0 (omega arith))
 
   module _ (s : Setting) (q : r .checked ≡ checked.Accepted s) where
-    told-sheet : sheetTold file ≡ given s
+    pub told-sheet : sheetTold file ≡ given s
     told-sheet = sym (o .says) ∙ ap checkSays q
 
     pub sheet-held : Held file words r
