@@ -6,3 +6,4 @@ pub mod Tests
 pub mod Table
 pub mod Split
 pub mod Paints
+pub mod Puts

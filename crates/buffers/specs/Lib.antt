@@ -1,3 +1,4 @@
 pub mod Pick
 pub mod Painted
 pub mod Words
+pub mod Put

@@ -5,5 +5,4 @@ pub mod Exactly
 pub mod Accepted
 pub mod Told
 pub mod Unique
-pub mod Cases
 pub mod Words

@@ -4,4 +4,5 @@ pub mod Stored
 pub mod Puts
 pub mod Sheets
 pub mod Texts
+pub mod Pictures
 pub mod Unique

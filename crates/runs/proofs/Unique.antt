@@ -1,9 +1,14 @@
--- For the public call, any two answers and any two states of the lent bytes that its contract permits are the same.
+-- For each public call, any two answers and any two states of the lent bytes that its contract permits are the same.
 use mathlib.Core.Path.{sym, _∙_}
 use denote.Ref.{now}
 use Rattle.buffers.proofs.Coincide.{OneState}
+use Rattle.runs.proofs.strips.strip.Kinds as strip-kinds
+use Rattle.runs.proofs.strips.strip.Reads as strip-reads
 use Rattle.runs.proofs.text.line.Kinds as line-kinds
 use Rattle.runs.proofs.text.line.Reads as line-reads
 
 pub one-line : OneState 2 line-kinds.ps line-kinds.r (λ κs s. now (s .1 .1 .0)) line-reads.Post
 one-line κs a x y s t p q = (p .after ∙ sym (q .after), p .stored ∙ sym (q .stored))
+
+pub one-strip : OneState 2 strip-kinds.ps strip-kinds.r (λ κs s. now (s .1 .1 .0)) strip-reads.Post
+one-strip κs a x y s t p q = (p .after ∙ sym (q .after), p .stored ∙ sym (q .stored))

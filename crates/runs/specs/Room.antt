@@ -7,12 +7,6 @@ use lib.Seq.{sets}
 use Rattle.runs.specs.Runs.{codeOf, runsFrom}
 use Rattle.runs.specs.declared.line.Run.{Run}
 
--- A text stored from a place on, and the place after it, all within the memory.
-pub record Put (old new : List ℕ) (at : ℕ) (text : List ℕ) (r : ℕ) : Type 0 where
-  pub stored : new ≡ sets old at text
-  pub after : r ≡ at + length text
-  pub inside : r ≤ length old
-
 -- A run under way: some cells of one code, to be stored from a place on. Four bytes a cell are room enough.
 pub record Open (room : ℕ) (r : Run) : Type 0 where
   pub some : 1 ≤ r .n

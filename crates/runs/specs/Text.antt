@@ -19,9 +19,13 @@ use Rattle.runs.specs.declared.sheet.Opened.{Opened}
 unfoldable pub labelled : List ℕ → ℕ → List ℕ
 labelled label n = label ++ decimal n
 
+-- Two numbers with a space between, behind some letters and before others.
+unfoldable pub pairLine : List ℕ → ℕ → ℕ → List ℕ → List ℕ
+pairLine label a b end = labelled label a ++ (labelled (32 ∷ []) b ++ end)
+
 -- `refused`, number, detail.
-unfoldable pub refusedLine : ℕ → ℕ → List ℕ
-refusedLine n d = labelled (114 ∷ 101 ∷ 102 ∷ 117 ∷ 115 ∷ 101 ∷ 100 ∷ 32 ∷ []) n ++ (labelled (32 ∷ []) d ++ (10 ∷ []))
+abbrev pub refusedLine : ℕ → ℕ → List ℕ
+refusedLine n d = pairLine (114 ∷ 101 ∷ 102 ∷ 117 ∷ 115 ∷ 101 ∷ 100 ∷ 32 ∷ []) n d (10 ∷ [])
 
 -- `frame N V words W marks M`.
 unfoldable pub headLine : ℕ → ℕ → ℕ → ℕ → List ℕ

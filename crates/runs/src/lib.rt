@@ -2,5 +2,6 @@
 mod line;
 mod number;
 mod sheet;
+pub mod strips;
 pub mod text;
 mod words;

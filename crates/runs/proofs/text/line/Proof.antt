@@ -1,4 +1,5 @@
-use Rattle.runs.proofs.Texts.{put-nothing, refused-later, refused-first, sheet-known, line-sheet}
+use Rattle.buffers.proofs.Puts.{put-nothing}
+use Rattle.runs.proofs.Texts.{refused-later, refused-first, sheet-known, line-sheet}
 use native.Mathlib.Omega.{arith}
 use borrow.Author.Needs.{needs}
 use Rattle.runs.proofs.text.line.Statement.{statement}

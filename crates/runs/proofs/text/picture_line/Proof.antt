@@ -1,4 +1,5 @@
-use Rattle.runs.proofs.Texts.{line-head, line-none, line-raster, put-nothing}
+use Rattle.buffers.proofs.Puts.{put-nothing}
+use Rattle.runs.proofs.Texts.{line-head, line-none, line-raster}
 use borrow.Author.Needs.{needs}
 use Rattle.runs.proofs.text.picture_line.Statement.{statement}
 use Rattle.runs.proofs.text.picture_line.Tie as tie

@@ -1,4 +1,4 @@
-use Rattle.runs.proofs.Puts.{put-then}
+use Rattle.buffers.proofs.Puts.{put-then}
 use native.Mathlib.Omega.{arith}
 use Rattle.runs.specs.Text.{headLine}
 use borrow.Author.Needs.{needs}

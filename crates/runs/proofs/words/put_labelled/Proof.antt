@@ -1,4 +1,5 @@
-use Rattle.runs.proofs.Puts.{put-then, put-decimal, few-digits}
+use Rattle.buffers.proofs.Puts.{put-then}
+use Rattle.runs.proofs.Puts.{put-decimal, few-digits}
 use Rattle.runs.specs.Text.{labelled}
 use native.Mathlib.Omega.{arith}
 use borrow.Author.Needs.{needs}

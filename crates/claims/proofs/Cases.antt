@@ -1,0 +1,38 @@
+-- The thirteen marked cases hold, by computation.
+use mathlib.Core.Path.{_≡_, refl}
+use mathlib.Core.List.{[], _∷_}
+use lib.ListN.{length}
+use Rattle.buffers.specs.Painted.{eachFrom, painted}
+use Rattle.registers.specs.Record.{storedOf}
+use Rattle.registers.specs.Load.{applied}
+use Rattle.registers.specs.Lowest.{lowest}
+use Rattle.registers.specs.Setting.{settingOf, videoWords, cursorWords}
+use Rattle.registers.specs.Check.{checkTold}
+use Rattle.frame.specs.Pixel.{pixel, cursorPair}
+use Rattle.frame.specs.Cell.{plainCode, covered, code, cell}
+use Rattle.frame.specs.Frame.{frameTold, rasterCell, rasterTold, rasterHeld}
+use Rattle.sound.specs.Amplitude.{amplitudeOf, signedOf, valueOf}
+use Rattle.sound.specs.Pair.{pairTold}
+use Rattle.claims.specs.Marked.{AllHold, markedCases}
+
+infixr 4 _and_
+_and_ : {A B : Type 0} → A → B → A × B
+p and q = (p, q)
+
+pub all-marked-cases : AllHold markedCases
+unfolding eachFrom painted storedOf applied lowest settingOf videoWords cursorWords checkTold pixel cursorPair plainCode covered code cell frameTold rasterCell rasterTold rasterHeld amplitudeOf signedOf valueOf pairTold
+all-marked-cases =
+    (refl, refl)
+    and (refl, refl)
+    and (refl, refl, refl, refl)
+    and (refl, refl, refl)
+    and (refl, refl)
+    and (refl, refl, refl, refl)
+    and refl
+    and (refl, refl)
+    and (refl, refl)
+    and refl
+    and (refl, refl, refl)
+    and (refl, refl, refl, refl)
+    and (refl, refl, refl)
+    and tt

@@ -1,0 +1,10 @@
+pub mod Bits
+pub mod ColoursTold
+pub mod Cells
+pub mod Runs
+pub mod Lists
+pub mod Picture
+pub mod Tables
+pub mod Refusals
+pub mod Demands
+pub mod Cases

@@ -1,0 +1,45 @@
+-- A judged table answers by that table, and a table judged after another is judged as one with it.
+use Prim.Native.Nat.{ℕ}
+use mathlib.Core.Path.{_≡_, refl, sym, _∙_, ap, subst}
+use mathlib.Core.Bool.{Bool, true, false}
+use mathlib.Core.List.{List, [], _∷_, _++_}
+use mathlib.Core.Logic.{_⊎_, inl, inr}
+use Rattle.buffers.specs.Pick.{pick}
+use Rattle.registers.specs.Table.{Told, given, refused, Row, judged, andThen, unlessRefused, First}
+use Rattle.registers.proofs.Tables.{passes-given, given-passes, refused-first, first-refused}
+use Rattle.claims.specs.Calls.{numbers, OneOf, ByTable, Kept}
+
+module _ {A : Type 0} (a : A) where
+  first-number : (rows : List Row) (n d : ℕ) → First rows n d → OneOf n (numbers rows)
+  first-number [] n d f = f
+  first-number (r ∷ rs) n d (inl f) = inl (sym (f .1))
+  first-number (r ∷ rs) n d (inr f) = inr (first-number rs n d (f .1))
+
+  judged-table : (rows : List Row) → ByTable (judged rows a) rows a
+  judged-table rows =
+      record {
+        given-when = (λ e. given-passes a rows a e .0, passes-given a rows);
+        given-what = λ b e. sym (given-passes a rows b e .1);
+        refused-when = λ n d. (refused-first a rows n d, first-refused a rows n d);
+        refused-with = λ n d e. first-number rows n d (refused-first a rows n d e);
+      }
+
+  -- An answer that tells what a table judges.
+  pub by-table : {t : Told A} (rows : List Row) → t ≡ judged rows a → ByTable t rows a
+  by-table rows e = subst (λ (u : Told A). ByTable u rows a) (sym e) (judged-table rows)
+
+-- One table after another; the second may speak of what the first gives.
+pub and-then-judged : {A B : Type 0} (b : B) (rows : List Row) (more : B → List Row) (a : B → A)
+    → andThen (judged rows b) (λ c. judged (more c) (a c)) ≡ judged (rows ++ more b) (a b)
+and-then-judged b [] more a = refl
+and-then-judged b (r ∷ rs) more a = go (r .when) (and-then-judged b rs more a)
+  where
+    go : (t : Bool) → andThen (judged rs b) (λ c. judged (more c) (a c)) ≡ judged (rs ++ more b) (a b)
+        → andThen (pick t (refused (r .number) (r .detail)) (judged rs b)) (λ c. judged (more c) (a c))
+        ≡ pick t (refused (r .number) (r .detail)) (judged (rs ++ more b) (a b))
+    go true e = refl
+    go false e = e
+
+-- What is left as it was where a call is refused.
+pub kept : {A B : Type 0} {t u : Told A} {before after : B} (then : B) → u ≡ t → after ≡ unlessRefused t before then → Kept u before after
+kept {before = before} then e h n d r = h ∙ ap (λ u. unlessRefused u before then) (sym e ∙ r)

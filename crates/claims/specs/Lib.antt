@@ -1,0 +1,6 @@
+pub mod Shown
+pub mod Exhibited
+pub mod Run
+pub mod Calls
+pub mod Rows
+pub mod Marked

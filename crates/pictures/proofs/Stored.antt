@@ -1,0 +1,46 @@
+-- Laws of the bytes of cells: how many, and one cell more.
+use Prim.Native.Nat.{ℕ, suc, _+_, _*_, _/_, _<_, _≤_}
+use mathlib.Core.Path.{_≡_, refl, sym}
+use mathlib.Core.Bool.{true, false}
+use mathlib.Core.List.{List, [], _∷_}
+use native.Mathlib.Numerals.{add-one}
+use native.Mathlib.Omega.{arith}
+use lib.ListN.{length, getD, drop, set}
+use lib.Seq.{sets, drop-cons, drop-length}
+use lib.Dec.{ltb}
+use borrow.Author.Tests.{lt-ltb, le-ltb}
+use Rattle.buffers.specs.Put.{Put}
+use Rattle.pictures.specs.Colours.{red, green, blue, colourIn, gunsOf, gunsIn}
+
+pub length-guns : (cells : List ℕ) → length (gunsOf cells) ≡ 3 * length cells
+unfolding gunsOf
+length-guns [] = refl
+length-guns (x ∷ xs) = omega (arith, length-guns xs)
+
+-- three stores
+pub guns-turn : (l cells : List ℕ) (k r g b : ℕ) → k < length cells
+    → r ≡ red (colourIn (getD cells k 0)) → g ≡ green (colourIn (getD cells k 0)) → b ≡ blue (colourIn (getD cells k 0))
+    → sets (set (set (set l (3 * k) r) (3 * k + 1) g) (3 * k + 2) b) (3 * (k + 1)) (gunsOf (drop (k + 1) cells)) ≡ sets l (3 * k) (gunsOf (drop k cells))
+unfolding gunsOf
+guns-turn l cells k r g b h er eg eb =
+    let p : 3 * k + 1 ≡ suc (3 * k) = omega arith in
+    let q : 3 * k + 2 ≡ suc (suc (3 * k)) = omega arith in
+    let t : 3 * (k + 1) ≡ suc (suc (suc (3 * k))) = omega arith in
+    rw (p, q, t, add-one, drop-cons cells k 0 h, er, eg, eb)
+
+pub guns-done : (l cells : List ℕ) (i k : ℕ) → k ≡ length cells → sets l i (gunsOf (drop k cells)) ≡ l
+unfolding gunsOf
+guns-done l cells i k e = rw (e, drop-length)
+
+-- room for all, or none
+pub no-room : (room : ℕ) (cells : List ℕ) → room / 3 < length cells → gunsIn room cells ≡ []
+unfolding gunsIn
+no-room room cells h = rw (lt-ltb room (3 * length cells) (omega arith))
+
+pub some-room : (room : ℕ) (cells : List ℕ) → 3 * length cells ≤ room → gunsIn room cells ≡ gunsOf cells
+unfolding gunsIn
+some-room room cells h = rw (le-ltb room (3 * length cells) h)
+
+pub put-guns : (o n cells : List ℕ) → 3 * length cells ≤ length o → n ≡ sets o 0 (gunsOf cells)
+    → Put o n 0 (gunsIn (length o) cells) (3 * length cells)
+put-guns o n cells h e = rw (some-room (length o) cells h) (record { stored = e; after = omega (arith, length-guns cells); inside = h })

@@ -1,0 +1,24 @@
+use Rattle.pictures.proofs.Stored.{no-room, put-guns}
+use Rattle.buffers.proofs.Puts.{put-nothing}
+use native.Mathlib.Omega.{arith}
+use borrow.Author.Needs.{needs}
+use Rattle.pictures.proofs.guns.Statement.{statement}
+use Rattle.pictures.proofs.guns.Tie as tie
+
+returns : tie.Need-returns
+returns c = rw (no-room _ _ (c .if1 .taken)) (put-nothing _)
+
+put-cells-requires : tie.Need-put-cells-requires
+put-cells-requires c κs = search needs
+
+mul-result : tie.Need-mul-result
+mul-result c = search needs
+
+same-length : tie.Need-same-length
+same-length c = search needs
+
+returns-2 : tie.Need-returns-2
+returns-2 c = put-guns _ _ _ (omega arith) (c .before .before .put-cells .ensures)
+
+pub guns-spec : {M : Type 1} → statement M
+guns-spec = tie.close (tie.spec returns put-cells-requires mul-result same-length returns-2)
