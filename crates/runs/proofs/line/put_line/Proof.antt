@@ -57,7 +57,7 @@ same-length : tie.Need-same-length Inv-loop μ-loop
 same-length c = simp length-set (c .before .before .put-run .kept .0 ∙ c .before .before .before .before .before .loop .inv .len)
 
 returns : tie.Need-returns Inv-loop μ-loop
-returns c = record { stored = line-stored _ _ _ _ _ _ _ _ (c .before .before .before .before .before .loop .inv) (omega (arith, c .before .before .before .before .before .loop .inv .to)) (c .before .before .put-run .ensures .1) (c .before .before .put-run .ensures .0); after = line-length _ _ _ _ _ _ _ _ (c .before .before .before .before .before .loop .inv) (omega (arith, c .before .before .before .before .before .loop .inv .to)) (c .before .before .put-run .ensures .1) (c .before .before .put-run .ensures .0) }
+returns c = record { stored = line-stored _ _ _ _ _ _ _ _ (c .before .before .before .before .before .loop .inv) (omega (arith, c .before .before .before .before .before .loop .inv .to)) (c .before .before .put-run .ensures .1) (c .before .before .put-run .ensures .0); after = line-length _ _ _ _ _ _ _ _ (c .before .before .before .before .before .loop .inv) (omega (arith, c .before .before .before .before .before .loop .inv .to)) (c .before .before .put-run .ensures .1) (c .before .before .put-run .ensures .0); inside = omega (arith, run-fits (c .before .before .before .before .before .loop .held .code) (c .before .before .before .before .before .loop .held .n) (c .before .before .before .before .before .loop .inv .small) (c .before .before .before .before .before .loop .inv .some), c .before .before .before .before .before .loop .inv .fits, c .before .before .before .before .before .loop .inv .to, c .before .before .put-run .ensures .0, c .before .before .before .before .before .before .before .before .before .pre .2) }
 
 pub put-line-spec : {M : Type 1} → statement M
 put-line-spec =

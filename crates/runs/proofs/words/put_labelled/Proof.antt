@@ -16,7 +16,7 @@ same-length c = search needs
 
 returns : tie.Need-returns
 unfolding labelled
-returns c = (put-then _ _ (c .before .before .before .before .before .before .put-bytes .ensures) (put-decimal (c .before .before .before .before .before .before .before .before .before .before .args .n) (c .before .before .put-number .ensures .0) (c .before .before .put-number .ensures .1)), omega (arith, few-digits (c .before .before .before .before .before .before .before .before .before .before .args .n), c .before .before .put-number .ensures .0, c .before .before .before .before .before .before .put-bytes .ensures .after))
+returns c = (put-then _ _ (c .before .before .before .before .before .before .put-bytes .ensures) (put-decimal (c .before .before .before .before .before .before .before .before .before .before .args .n) (omega (arith, few-digits (c .before .before .before .before .before .before .before .before .before .before .args .n), c .before .before .before .before .before .before .before .before .before .before .pre, c .before .before .before .before .before .before .put-bytes .ensures .after, c .before .before .before .before .before .before .put-bytes .kept .0)) (c .before .before .put-number .ensures .0) (c .before .before .put-number .ensures .1)), omega (arith, few-digits (c .before .before .before .before .before .before .before .before .before .before .args .n), c .before .before .put-number .ensures .0, c .before .before .before .before .before .before .put-bytes .ensures .after))
 
 pub put-labelled-spec : {M : Type 1} → statement M
 put-labelled-spec = tie.close (tie.spec put-bytes-requires put-number-requires same-length returns)
