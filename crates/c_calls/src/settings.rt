@@ -11,6 +11,7 @@ use registers::refusal::Refusal;
 use registers::setting::Setting;
 ghost use mathlib.Core.Path.{_≡_};
 ghost use Prim.Native.Nat.{_≤_};
+ghost use mathlib.Core.Bool.{cond};
 ghost use lib.ListN.{length};
 ghost use lib.Seq.{sets};
 ghost use Rattle.registers.proofs.Accepted.{Accepted};
@@ -22,30 +23,42 @@ ghost use Rattle.c_calls.specs.Settings.{numbersOf, settingTold, checkCa
 // How many numbers a setting has.
 const NUMBERS: usize = 21;
 
+fn wide(number: u16) -> u32
+    ensures { λ r. ⌜ r ≡ number ⌝ }
+{
+    number as u32
+}
+
+fn flag(on: bool) -> u32
+    ensures { λ r. ⌜ r ≡ cond on 1 0 ⌝ }
+{
+    on as u32
+}
+
 fn put_setting(s: Setting, out: &mut [u32])
     requires { ⌜ (21 ≤ length (now out)) × Accepted s ⌝ }
     ensures { λ _. ⌜ now (out .exit) ≡ sets (now (out .entry)) 0 (numbersOf s) ⌝ }
 {
     let numbers = [
-        s.n.0 as u32,
-        s.hs.0 as u32,
-        s.bs.0 as u32,
-        s.ds.0 as u32,
-        s.de.0 as u32,
-        s.be.0 as u32,
-        s.cx.0 as u32,
-        s.v.0 as u32,
-        s.vs.0 as u32,
-        s.vbs.0 as u32,
-        s.vds.0 as u32,
-        s.vde.0 as u32,
-        s.vbe.0 as u32,
-        s.vcs.0 as u32,
-        s.vce.0 as u32,
-        s.depth as u32,
-        s.display_on() as u32,
-        s.border_on() as u32,
-        s.cursor as u32,
+        wide(s.n.0),
+        wide(s.hs.0),
+        wide(s.bs.0),
+        wide(s.ds.0),
+        wide(s.de.0),
+        wide(s.be.0),
+        wide(s.cx.0),
+        wide(s.v.0),
+        wide(s.vs.0),
+        wide(s.vbs.0),
+        wide(s.vds.0),
+        wide(s.vde.0),
+        wide(s.vbe.0),
+        wide(s.vcs.0),
+        wide(s.vce.0),
+        wide(s.depth as u16),
+        flag(s.display_on()),
+        flag(s.border_on()),
+        flag(s.cursor),
         s.video_words() as u32,
         s.cursor_words() as u32,
     ];

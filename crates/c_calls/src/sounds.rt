@@ -51,7 +51,8 @@ pub extern "C" fn vom_sound(
     }
     let played = sound::play(record_of(values, written), words, counter, out);
     after[0] = played.counter;
-    answered(played.answer)
+    let answer = played.answer;
+    answered(answer)
 }
 
 // One byte's left and right value in sixths; 10 for a stereo value 0 modulo 8, then 13 for `pair`.
@@ -68,8 +69,10 @@ pub extern "C" fn vom_sound_pair(byte: u8, stereo: u8, pair: &mut [i16]) -> u64
             if pair.len() < 2 {
                 return SHORT;
             }
-            pair[0] = sides.left;
-            pair[1] = sides.right;
+            let left = sides.left;
+            let right = sides.right;
+            pair[0] = left;
+            pair[1] = right;
             0
         }
     }

@@ -1,0 +1,1 @@
+// The printer's text, whole.
