@@ -4,3 +4,4 @@ pub mod Loading
 pub mod Pictured
 pub mod Sounded
 pub mod Written
+pub mod Text

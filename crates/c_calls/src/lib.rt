@@ -8,5 +8,6 @@ pub mod settings;
 pub mod sounds;
 pub mod texts;
 mod code;
+mod lines;
 mod put;
 mod record;

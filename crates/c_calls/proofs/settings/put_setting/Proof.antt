@@ -109,7 +109,7 @@ video-words-requires c κs = search needs
 
 -- src/settings.rt:62:9
 cast-t27 : tie.Need-cast-t27
-cast-t27 c = let s = c .before .before .before .before .before .before .before .before .before .before .before .before .before .before .before .before .before .before .before .before .before .before .before .before .before in omega (arith, c .video-words .ensures, video-most (s .args .s) (s .pre .1))
+cast-t27 c = let s = c .before .before .before .before .before .before .before .before .before .before .before .before .before .before .before .before .before .before .before .before .before .before .before .before in omega (arith, c .video-words .ensures, video-most (s .args .s) (s .pre .1))
 
 -- src/settings.rt:63:9
 cursor-words-requires : tie.Need-cursor-words-requires
@@ -117,7 +117,7 @@ cursor-words-requires c κs = search needs
 
 -- src/settings.rt:63:9
 cast-t29 : tie.Need-cast-t29
-cast-t29 c = let s = c .before .before .before .before .before .before .before .before .before .before .before .before .before .before .before .before .before .before .before .before .before .before .before .before .before .before in omega (arith, c .cursor-words .ensures, cursor-most (s .args .s) (s .pre .1))
+cast-t29 c = let s = c .before .before .before .before .before .before .before .before .before .before .before .before .before .before .before .before .before .before .before .before .before .before .before .before .before in omega (arith, c .cursor-words .ensures, cursor-most (s .args .s) (s .pre .1))
 
 -- src/settings.rt:65:20
 slice-aggregate-put-words : tie.Need-slice-aggregate-put-words
@@ -125,7 +125,7 @@ slice-aggregate-put-words c = search needs
 
 -- src/settings.rt:65:5
 put-words-requires : tie.Need-put-words-requires
-put-words-requires c κs = c .before .before .before .before .before .before .before .before .before .before .before .before .before .before .before .before .before .before .before .before .before .before .before .before .before .before .before .before .pre .0
+put-words-requires c κs = c .before .before .before .before .before .before .before .before .before .before .before .before .before .before .before .before .before .before .before .before .before .before .before .before .before .before .before .pre .0
 
 -- src/settings.rt:38:1
 same-length : tie.Need-same-length
@@ -145,21 +145,21 @@ returns c =
       c .before .before .before .before .before .before .before .before .before .before .flag .ensures,
       c .before .before .before .before .before .before .before .before .before .before .before .display-on .ensures,
       c .before .before .before .before .before .before .before .before .before .before .before .before .wide16 .ensures,
-      c .before .before .before .before .before .before .before .before .before .before .before .before .before .wide15 .ensures,
-      c .before .before .before .before .before .before .before .before .before .before .before .before .before .before .wide14 .ensures,
-      c .before .before .before .before .before .before .before .before .before .before .before .before .before .before .before .wide13 .ensures,
-      c .before .before .before .before .before .before .before .before .before .before .before .before .before .before .before .before .wide12 .ensures,
-      c .before .before .before .before .before .before .before .before .before .before .before .before .before .before .before .before .before .wide11 .ensures,
-      c .before .before .before .before .before .before .before .before .before .before .before .before .before .before .before .before .before .before .wide10 .ensures,
-      c .before .before .before .before .before .before .before .before .before .before .before .before .before .before .before .before .before .before .before .wide9 .ensures,
-      c .before .before .before .before .before .before .before .before .before .before .before .before .before .before .before .before .before .before .before .before .wide8 .ensures,
-      c .before .before .before .before .before .before .before .before .before .before .before .before .before .before .before .before .before .before .before .before .before .wide7 .ensures,
-      c .before .before .before .before .before .before .before .before .before .before .before .before .before .before .before .before .before .before .before .before .before .before .wide6 .ensures,
-      c .before .before .before .before .before .before .before .before .before .before .before .before .before .before .before .before .before .before .before .before .before .before .before .wide5 .ensures,
-      c .before .before .before .before .before .before .before .before .before .before .before .before .before .before .before .before .before .before .before .before .before .before .before .before .wide4 .ensures,
-      c .before .before .before .before .before .before .before .before .before .before .before .before .before .before .before .before .before .before .before .before .before .before .before .before .before .wide3 .ensures,
-      c .before .before .before .before .before .before .before .before .before .before .before .before .before .before .before .before .before .before .before .before .before .before .before .before .before .before .wide2 .ensures,
-      c .before .before .before .before .before .before .before .before .before .before .before .before .before .before .before .before .before .before .before .before .before .before .before .before .before .before .before .wide .ensures,
+      c .before .before .before .before .before .before .before .before .before .before .before .before .before .before .wide15 .ensures,
+      c .before .before .before .before .before .before .before .before .before .before .before .before .before .before .before .wide14 .ensures,
+      c .before .before .before .before .before .before .before .before .before .before .before .before .before .before .before .before .wide13 .ensures,
+      c .before .before .before .before .before .before .before .before .before .before .before .before .before .before .before .before .before .wide12 .ensures,
+      c .before .before .before .before .before .before .before .before .before .before .before .before .before .before .before .before .before .before .wide11 .ensures,
+      c .before .before .before .before .before .before .before .before .before .before .before .before .before .before .before .before .before .before .before .wide10 .ensures,
+      c .before .before .before .before .before .before .before .before .before .before .before .before .before .before .before .before .before .before .before .before .wide9 .ensures,
+      c .before .before .before .before .before .before .before .before .before .before .before .before .before .before .before .before .before .before .before .before .before .wide8 .ensures,
+      c .before .before .before .before .before .before .before .before .before .before .before .before .before .before .before .before .before .before .before .before .before .before .wide7 .ensures,
+      c .before .before .before .before .before .before .before .before .before .before .before .before .before .before .before .before .before .before .before .before .before .before .before .wide6 .ensures,
+      c .before .before .before .before .before .before .before .before .before .before .before .before .before .before .before .before .before .before .before .before .before .before .before .before .wide5 .ensures,
+      c .before .before .before .before .before .before .before .before .before .before .before .before .before .before .before .before .before .before .before .before .before .before .before .before .before .wide4 .ensures,
+      c .before .before .before .before .before .before .before .before .before .before .before .before .before .before .before .before .before .before .before .before .before .before .before .before .before .before .wide3 .ensures,
+      c .before .before .before .before .before .before .before .before .before .before .before .before .before .before .before .before .before .before .before .before .before .before .before .before .before .before .before .wide2 .ensures,
+      c .before .before .before .before .before .before .before .before .before .before .before .before .before .before .before .before .before .before .before .before .before .before .before .before .before .before .before .before .wide .ensures,
     )
 
 pub put-setting-spec : {M : Type 1} → statement M
