@@ -82,8 +82,8 @@ module _ {A : Type 0} {d : A} {l : List A} where
       same : (k : ℕ) → k < length m → getD m k d ≡ getD (painted l a b f) k d
       same k h =
           elim (lt-or-le k a) [
-            inl t ↦ p .low k t ∙ sym (q .low k t)
-          | inr t ↦ elim (lt-or-le k b) [ inl u ↦ p .on k t u ∙ sym (q .on k t u) | inr u ↦ p .high k u ∙ sym (q .high k u) ]
+            | inl t ↦ p .low k t ∙ sym (q .low k t)
+            | inr t ↦ elim (lt-or-le k b) [ inl u ↦ p .on k t u ∙ sym (q .on k t u) | inr u ↦ p .high k u ∙ sym (q .high k u) ]
           ]
 
   -- Nothing painted yet.
@@ -108,10 +108,10 @@ module _ {A : Type 0} {d : A} {l : List A} where
       inside : (k : ℕ) → a ≤ k → k < b + 1 → getD (set m b v) k d ≡ f k
       inside k h t =
           elim (lt-or-le k b) [
-            inl u ↦ getD-set-other m b k v d (λ q. omega arith) ∙ p .on k h u
-          | inr u ↦
-            let q : k ≡ b = omega arith in
-            rw q (getD-set-same m b v d (omega (arith, p .len)) ∙ e)
+            | inl u ↦ getD-set-other m b k v d (λ q. omega arith) ∙ p .on k h u
+            | inr u ↦
+                let q : k ≡ b = omega arith in
+                rw q (getD-set-same m b v d (omega (arith, p .len)) ∙ e)
           ]
 
       above : (k : ℕ) → b + 1 ≤ k → getD (set m b v) k d ≡ getD l k d
@@ -124,10 +124,10 @@ module _ {A : Type 0} {d : A} {l : List A} where
       inside : (k : ℕ) → a ≤ k → k < b + 1 → getD m k d ≡ f k
       inside k h t =
           elim (lt-or-le k b) [
-            inl u ↦ p .on k h u
-          | inr u ↦
-            let q : k ≡ b = omega arith in
-            rw q (p .high b (omega arith) ∙ e)
+            | inl u ↦ p .on k h u
+            | inr u ↦
+                let q : k ≡ b = omega arith in
+                rw q (p .high b (omega arith) ∙ e)
           ]
 
   -- Two stretches that meet, by one rule.
@@ -158,10 +158,10 @@ module _ {A : Type 0} {d : A} {l : List A} where
       inside : (k : ℕ) → a ≤ k → k < b → getD n k d ≡ r k
       inside k t u =
           elim (lt-or-le k i) [
-            inl w ↦ q .low k w ∙ p .on k t u ∙ before k t w
-          | inr w ↦
-            elim (lt-or-le k j) [
-              inl z ↦ q .on k w z ∙ over k w z
-            | inr z ↦ q .high k z ∙ p .on k t u ∙ after k z u
-            ]
+            | inl w ↦ q .low k w ∙ p .on k t u ∙ before k t w
+            | inr w ↦
+                elim (lt-or-le k j) [
+                  | inl z ↦ q .on k w z ∙ over k w z
+                  | inr z ↦ q .high k z ∙ p .on k t u ∙ after k z u
+                ]
           ]

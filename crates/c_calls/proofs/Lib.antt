@@ -5,3 +5,4 @@ pub mod Pictured
 pub mod Sounded
 pub mod Written
 pub mod Text
+pub mod Unique

@@ -47,8 +47,8 @@ module _ (values written : List ℕ) where
       let e : ms ≡ take 64 values = whole 0 ns ms (take 64 values) (valueAt values) n p (length-take-le 64 values a) (λ k h. getD-take 64 values k 0 h) in
       let t : length (take 64 written) ≡ 64 = length-take-le 64 written b in
       let u : gs ≡ map isSet (take 64 written) =
-            whole false fs gs (map isSet (take 64 written)) (flagAt written) f q (length-flags (take 64 written) ∙ t)
-            (λ k h. getD-flags (take 64 written) k (omega arith) ∙ ap isSet (getD-take 64 written k 0 h)) in
+      whole false fs gs (map isSet (take 64 written)) (flagAt written) f q (length-flags (take 64 written) ∙ t)
+      (λ k h. getD-flags (take 64 written) k (omega arith) ∙ ap isSet (getD-take 64 written k 0 h)) in
       rw (e, u)
 
   pub no-record : lacking values written ≡ true → recordTold values written ≡ refused 13 0

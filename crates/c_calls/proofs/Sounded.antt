@@ -53,10 +53,11 @@ module _ (values written words : List ℕ) (counter : ℕ) (out : List ℤ) (aft
 
   pub sound-unheard : (r : ℕ) → length after < 1 → r ≡ codeOf (unheard (checkSoundCall values written)) → Sounded r out after
   unfolding soundCall soundLeaves counterLeaves checkSoundCall
-  sound-unheard r h k =
-      (k ∙ ap codeOf (same-unheard (recordTold values written) (length words) (length out) (length after) h),
-       room-short 1 (length after) (andThen (recordTold values written) (λ g. playTold g (length words) (length out))) out _ h,
-       rw (lt-ltb (length after) 1 h))
+  sound-unheard r h k = (
+    k ∙ ap codeOf (same-unheard (recordTold values written) (length words) (length out) (length after) h),
+    room-short 1 (length after) (andThen (recordTold values written) (λ g. playTold g (length words) (length out))) out _ h,
+    rw (lt-ltb (length after) 1 h),
+  )
 
   pub sound-short : lacking values written ≡ true → 1 ≤ length after → Sounded short out (sets after 0 (counter ∷ []))
   unfolding soundCall soundLeaves counterLeaves

@@ -1,11 +1,11 @@
 -- The lines of a text, one after another: none is empty but those after the last.
 use Prim.Native.Nat.{ℕ, zero, suc, _+_, _*_, _-_, _/_, _≤_, _<_}
 use mathlib.Core.Path.{_≡_, refl, sym, _∙_, ap}
-use mathlib.Core.Bool.{Bool, true, false}
+use mathlib.Core.Bool.{Bool, true, false, _||_}
 use mathlib.Core.List.{List, [], _∷_, _++_, append-nil}
 use native.Mathlib.Numerals.{add-one}
 use native.Mathlib.Omega.{arith}
-use borrow.Author.Tests.{lt-ltb, le-ltb, lt-leb, le-leb, eq-eqb, ne-eqb}
+use borrow.Author.Tests.{ltb-false, lt-ltb, le-ltb, lt-leb, le-leb, eq-eqb, ne-eqb}
 use lib.ListN.{length, length-append, take, drop}
 use lib.Seq.{sets, sets-eq, take-append-seam, length-sets}
 use lib.Dec.{ltb, eqb, leb}
@@ -18,6 +18,7 @@ use Rattle.registers.specs.declared.record.Registers.{Registers}
 use Rattle.registers.proofs.Accepted.{Accepted}
 use Rattle.registers.proofs.Tables.{never}
 use Rattle.buffers.proofs.Split.{lt-or-le}
+use Rattle.buffers.proofs.Tests.{no}
 use mathlib.Core.Logic.{inl, inr}
 use native.Mathlib.Nat.{zero-add, suc-add}
 use Rattle.runs.proofs.Texts.{picture-accepted, no-more}
@@ -29,6 +30,9 @@ use Rattle.plates.specs.declared.Sections.{Sections}
 use Rattle.registers.specs.Load.{loadTold}
 use Rattle.runs.specs.Sheet.{sheetTold, pictureTold, registerWords, registersOf, videoList, cursorList}
 use Rattle.runs.specs.Text.{headOf, headLine, refusedLine, labelled, valuesFrom, rasterLine, pictureLine, lineFor, lineAt, linesFor, firstLines, textOf}
+use Rattle.c_calls.specs.Code.{codeOf}
+use Rattle.c_calls.specs.Texts.{textCall, textLeaves, textLength}
+use Rattle.c_calls.proofs.Answers.{short}
 
 -- A list with a last byte has a byte.
 ends : (l : List ℕ) (x : ℕ) → 1 ≤ length (l ++ (x ∷ []))
@@ -58,8 +62,8 @@ module _ (file : List ℕ) where
       picture-accepted (registersOf file) (videoList file) (cursorList file) s (go (judged (row 15 (ltb 65536 (length file)) 0 ∷ []) (length file)) (readTold file) (loadTold (registerWords file)) e) .v-most
     where
       go : (t : Told ℕ) (r : Told Sections) (l : Told (Unit {0}))
-        → andThen t (λ _. andThen r (λ _. andThen l (λ _. pictureTold (registersOf file) (videoList file) (cursorList file)))) ≡ given s
-        → pictureTold (registersOf file) (videoList file) (cursorList file) ≡ given s
+          → andThen t (λ _. andThen r (λ _. andThen l (λ _. pictureTold (registersOf file) (videoList file) (cursorList file)))) ≡ given s
+          → pictureTold (registersOf file) (videoList file) (cursorList file) ≡ given s
       go (refused n d) r l h = never (sym h)
       go (given a) (refused n d) l h = never (sym h)
       go (given a) (given b) (refused n d) h = never (sym h)
@@ -88,15 +92,15 @@ module _ (file : List ℕ) where
   pub last-line : (k : ℕ) → k ≤ linesFor (sheetTold file) → length (lineAt file k) ≡ 0 → k ≡ linesFor (sheetTold file)
   unfolding lineAt
   last-line k h e = elim (lt-or-le k (linesFor (sheetTold file))) [
-      inl l ↦ absurd (let s = some-lines (sheetTold file) k l in omega arith)
+    | inl l ↦ absurd (let s = some-lines (sheetTold file) k l in omega arith)
     | inr l ↦ omega arith
-    ]
+  ]
 
   pub more-lines : (k : ℕ) → (length (lineAt file k) ≡ 0 → ⊥) → k + 1 ≤ linesFor (sheetTold file)
   more-lines k h = elim (lt-or-le k (linesFor (sheetTold file))) [
-      inl l ↦ omega arith
+    | inl l ↦ omega arith
     | inr l ↦ absurd (h (ap length (no-more file k l)))
-    ]
+  ]
 
   pub lines-next : (k : ℕ) → firstLines file (k + 1) ≡ firstLines file k ++ lineAt file k
   unfolding firstLines
@@ -137,9 +141,9 @@ line-most o p vs n h put =
 module _ (file : List ℕ) where
   pub lines-room : (k : ℕ) → k ≤ linesFor (sheetTold file) → length (firstLines file k) + length (lineAt file k) ≤ length (textOf file)
   lines-room k h = elim (lt-or-le k (linesFor (sheetTold file))) [
-      inl l ↦ omega (arith, length-next file k, lines-within file (k + 1) (omega arith))
+    | inl l ↦ omega (arith, length-next file k, lines-within file (k + 1) (omega arith))
     | inr l ↦ omega (arith, ap length (no-more file k l), lines-within file k h)
-    ]
+  ]
 
   -- One line more, stored after those before it.
   pub lines-stored : (o p q : List ℕ) (k at : ℕ) → p ≡ sets o 0 (firstLines file k) → at ≡ length (firstLines file k)
@@ -154,3 +158,28 @@ module _ (file : List ℕ) where
       let last = last-line file k h (sym e ∙ z) in
       let none : lineAt file k ≡ [] = no-more file k (omega arith) in
       d ∙ (rw none (a ∙ ap (sets o 0) (all-lines file k last)))
+
+or-false : (a b : Bool) → a || b ≡ false → (a ≡ false) × (b ≡ false)
+or-false false b e = (refl, e)
+or-false true b e = absurd (no (sym e))
+
+-- The call: a text of n bytes.
+module _ (file text size : List ℕ) (n : ℕ) (e : n ≡ length (textOf file)) where
+  abbrev pub Texted : ℕ → List ℕ → List ℕ → Type 0
+  Texted r t z =
+      (r ≡ codeOf (textCall file (length text) (length size))) × (t ≡ textLeaves file text (length size))
+      × (z ≡ textLength file (length text) size)
+
+  pub text-short : ltb (length size) 1 || ltb (length text) n ≡ true → Texted short text size
+  unfolding textCall textLeaves textLength
+  text-short h = let t = rw e at h in (rw t, rw t, rw t)
+
+  pub text-room : ltb (length size) 1 || ltb (length text) n ≡ false → (1 ≤ length size) × (length (textOf file) ≤ length text)
+  text-room h =
+      let both = or-false (ltb (length size) 1) (ltb (length text) n) h in
+      (ltb-false (length size) 1 (both .0), rw e at (ltb-false (length text) n (both .1)))
+
+  pub text-done : (t : List ℕ) → ltb (length size) 1 || ltb (length text) n ≡ false → t ≡ sets text 0 (textOf file)
+      → Texted 0 t (sets size 0 (n ∷ []))
+  unfolding textCall textLeaves textLength
+  text-done t h k = let f = rw e at h in (rw f, rw f k, rw (f, ← e))

@@ -45,10 +45,11 @@ module _ (rs vs cs ss : List ℕ) where
 
     pub write-unmeasured : (r : ℕ) → length size < 1 → r ≡ codeOf (writeCall rs vs cs ss 1 0) → Written r out size
     unfolding writeCall plateLeaves lengthLeaves writeTold
-    write-unmeasured r h k =
-        (k ∙ ap codeOf (unmeasured-by (ltb mostBytes (plateLength rs vs cs ss)) (ltb 1 (plateLength rs vs cs ss)) (ltb (length out) (plateLength rs vs cs ss)) (plateLength rs vs cs ss) 0 (length size) (omega arith) h),
-         room-short 1 (length size) (writeTold rs vs cs ss (length out)) out _ h,
-         length-short (writeTold rs vs cs ss (length out)) h)
+    write-unmeasured r h k = (
+      k ∙ ap codeOf (unmeasured-by (ltb mostBytes (plateLength rs vs cs ss)) (ltb 1 (plateLength rs vs cs ss)) (ltb (length out) (plateLength rs vs cs ss)) (plateLength rs vs cs ss) 0 (length size) (omega arith) h),
+      room-short 1 (length size) (writeTold rs vs cs ss (length out)) out _ h,
+      length-short (writeTold rs vs cs ss (length out)) h,
+    )
 
     pub write-refused : (n d r : ℕ) (o : List ℕ) → 1 ≤ length size → writeTold rs vs cs ss (length out) ≡ refused n d
         → o ≡ writeLeaves rs vs cs ss out → Refuses n d r → Written r o size

@@ -56,7 +56,13 @@ pub extern "C" fn vom_raster_words(
     }
 }
 
-fn count_marks(values: &[u32], written: &[u8], video: &[u32], cursor: &[u32], threshold: u8) -> Marks
+fn count_marks(
+    values: &[u32],
+    written: &[u8],
+    video: &[u32],
+    cursor: &[u32],
+    threshold: u8,
+) -> Marks
     ensures { λ r. ⌜
         marksSays r ≡ countTold (now (values .entry)) (now (written .entry)) (now (video .entry)) (now (cursor .entry)) threshold
         ⌝ }

@@ -55,10 +55,10 @@ module _ (s : Setting) (r : Accepted s) (x y : ℕ) where
   unfolding plainCode
   code-border e =
       elim (true-or-false (inBorder s x y)) [
-        inl b ↦ border-inside s x y b
-      | inr b ↦
-        let d = is-false (inDisplay s x y) (λ t. true≢false (sym (inside-border s x y (display-bordered s r x y (display-inside s x y t))) ∙ b)) in
-        absurd (low (ltb x (s .hs .0)) (ltb y (s .vs .0)) (rw (d, b) at e))
+        | inl b ↦ border-inside s x y b
+        | inr b ↦
+            let d = is-false (inDisplay s x y) (λ t. true≢false (sym (inside-border s x y (display-bordered s r x y (display-inside s x y t))) ∙ b)) in
+            absurd (low (ltb x (s .hs .0)) (ltb y (s .vs .0)) (rw (d, b) at e))
       ]
     where
       low : (a b : Bool) → leb 4 (pick (ltb 0 (pick a 1 0 + pick b 2 0)) (pick a 1 0 + pick b 2 0) 0) ≡ true → ⊥
@@ -176,8 +176,11 @@ module _ (s : Setting) (r : Accepted s) (pens cursor o : List ℕ) (at y : ℕ) 
         over : (k : ℕ) → at + cx + low ≤ k → k < at + cx + high → pairInk pens cursor (2 * (y - s .vcs .0)) (at + cx) o k ≡ coverInk s pens cursor y at o k
         over k a b =
             let i : k - (at + cx) ≡ k - at - s .cx .0 = omega arith in
-            rw (i, covers-covered s r cursor (k - at) y (record {
-              on = on;
-              border = record { left = omega arith; right = omega arith; above = top; below = bottom };
-              cursor = record { left = omega arith; right = omega arith; above = above; below = below };
-            })) (swap (eqb (pairIn cursor (2 * (y - s .vcs .0)) (k - at - s .cx .0)) 0) (getD o k 0) (getD pens (pairIn cursor (2 * (y - s .vcs .0)) (k - at - s .cx .0)) 0))
+            rw (
+              i,
+              covers-covered s r cursor (k - at) y (record {
+                on = on;
+                border = record { left = omega arith; right = omega arith; above = top; below = bottom };
+                cursor = record { left = omega arith; right = omega arith; above = above; below = below };
+              }),
+            ) (swap (eqb (pairIn cursor (2 * (y - s .vcs .0)) (k - at - s .cx .0)) 0) (getD o k 0) (getD pens (pairIn cursor (2 * (y - s .vcs .0)) (k - at - s .cx .0)) 0))

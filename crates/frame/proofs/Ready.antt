@@ -51,12 +51,12 @@ pen-at g (suc (suc (suc (suc p)))) h some = absurd (omega arith)
 -- By the tests that make a code: sync, display, border.
 by-tests : (a b d e : Bool) (t p q w c : ℕ) → t ≡ 5 * 8192 + w → p ≡ 4 * 8192 + c
     → pick (eqb (pick (ltb 0 (pick a 1 0 + pick b 2 0)) (pick a 1 0 + pick b 2 0) (pick d 5 (pick e 4 0))) 5) t
-      (pick (eqb (pick (ltb 0 (pick a 1 0 + pick b 2 0)) (pick a 1 0 + pick b 2 0) (pick d 5 (pick e 4 0))) 4) p
-      (pick (ltb 0 (pick a 1 0 + pick b 2 0)) (pick a 1 0 + pick b 2 0) (pick d 5 (pick e 4 0)) * 8192))
-      ≡ pick (ltb 0 (pick a 1 0 + pick b 2 0)) (pick a 1 0 + pick b 2 0) (pick d 5 (pick e 4 0)) * 8192
-      + pick (eqb (pick (ltb 0 (pick a 1 0 + pick b 2 0)) (pick a 1 0 + pick b 2 0) (pick d 5 (pick e 4 0))) 6) q
-        (pick (eqb (pick (ltb 0 (pick a 1 0 + pick b 2 0)) (pick a 1 0 + pick b 2 0) (pick d 5 (pick e 4 0))) 5) w
-        (pick (eqb (pick (ltb 0 (pick a 1 0 + pick b 2 0)) (pick a 1 0 + pick b 2 0) (pick d 5 (pick e 4 0))) 4) c 0))
+    (pick (eqb (pick (ltb 0 (pick a 1 0 + pick b 2 0)) (pick a 1 0 + pick b 2 0) (pick d 5 (pick e 4 0))) 4) p
+    (pick (ltb 0 (pick a 1 0 + pick b 2 0)) (pick a 1 0 + pick b 2 0) (pick d 5 (pick e 4 0)) * 8192))
+    ≡ pick (ltb 0 (pick a 1 0 + pick b 2 0)) (pick a 1 0 + pick b 2 0) (pick d 5 (pick e 4 0)) * 8192
+    + pick (eqb (pick (ltb 0 (pick a 1 0 + pick b 2 0)) (pick a 1 0 + pick b 2 0) (pick d 5 (pick e 4 0))) 6) q
+    (pick (eqb (pick (ltb 0 (pick a 1 0 + pick b 2 0)) (pick a 1 0 + pick b 2 0) (pick d 5 (pick e 4 0))) 5) w
+    (pick (eqb (pick (ltb 0 (pick a 1 0 + pick b 2 0)) (pick a 1 0 + pick b 2 0) (pick d 5 (pick e 4 0))) 4) c 0))
 by-tests true true d e t p q w c f g = refl
 by-tests true false d e t p q w c f g = refl
 by-tests false true d e t p q w c f g = refl
@@ -81,11 +81,11 @@ module _ (g : Registers) (s : Setting) (table video cursor : List ℕ) (x y : �
   unfolding ink plainInk plainCode code cell pensOf
   ink-cell =
       elim (true-or-false (covered s cursor x y)) [
-        inl e ↦ rw e (over e)
-      | inr e ↦
-        rw e
-        (by-tests (ltb x (s .hs .0)) (ltb y (s .vs .0)) (inDisplay s x y) (inBorder s x y) _ _
-        (cursorOf g (cursorPair s cursor y (x - s .cx .0))) (colourOf g (s .depth) (logical s video x y)) (borderOf g) pixel-cell refl)
+        | inl e ↦ rw e (over e)
+        | inr e ↦
+            rw e
+            (by-tests (ltb x (s .hs .0)) (ltb y (s .vs .0)) (inDisplay s x y) (inBorder s x y) _ _
+            (cursorOf g (cursorPair s cursor y (x - s .cx .0))) (colourOf g (s .depth) (logical s video x y)) (borderOf g) pixel-cell refl)
       ]
     where
       over : covered s cursor x y ≡ true → getD (pensOf g) (cursorPair s cursor y (x - s .cx .0)) 0 ≡ 6 * 8192 + cursorOf g (cursorPair s cursor y (x - s .cx .0))

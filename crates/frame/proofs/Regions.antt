@@ -72,8 +72,8 @@ module _ (s : Setting) (pens table video : List ℕ) (x y : ℕ) where
   unfolding plainInk plainCode
   sync-ink h =
       elim (lt-or-le y (s .vs .0)) [
-        inl g ↦ rw (lt-ltb x (s .hs .0) h, lt-ltb y (s .vs .0) g)
-      | inr g ↦ rw (lt-ltb x (s .hs .0) h, le-ltb y (s .vs .0) g)
+        | inl g ↦ rw (lt-ltb x (s .hs .0) h, lt-ltb y (s .vs .0) g)
+        | inr g ↦ rw (lt-ltb x (s .hs .0) h, le-ltb y (s .vs .0) g)
       ]
 
   pub blank-ink : Accepted s → s .hs .0 ≤ x → (Inside (s .bs .0) (s .be .0) (s .vbs .0) (s .vbe .0) x y → ⊥) → plainInk s pens table video y x ≡ blankOf s y
@@ -82,8 +82,8 @@ module _ (s : Setting) (pens table video : List ℕ) (x y : ℕ) where
       let b = is-false (inBorder s x y) (λ e. out (border-inside s x y e)) in
       let d = is-false (inDisplay s x y) (λ e. out (display-bordered s r x y (display-inside s x y e))) in
       elim (lt-or-le y (s .vs .0)) [
-        inl g ↦ rw (le-ltb x (s .hs .0) h, lt-ltb y (s .vs .0) g)
-      | inr g ↦ rw (le-ltb x (s .hs .0) h, le-ltb y (s .vs .0) g, b, d)
+        | inl g ↦ rw (le-ltb x (s .hs .0) h, lt-ltb y (s .vs .0) g)
+        | inr g ↦ rw (le-ltb x (s .hs .0) h, le-ltb y (s .vs .0) g, b, d)
       ]
 
   pub border-ink : Accepted s → Inside (s .bs .0) (s .be .0) (s .vbs .0) (s .vbe .0) x y

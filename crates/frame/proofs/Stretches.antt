@@ -50,21 +50,21 @@ module _ (s : Setting) (r : Accepted s) (pens table video : List ℕ) (at y : �
   display-middle-law o p q m bs ds de be room in-rows above below e-bs e-ds e-de e-be e f g =
       let rows = within-true (s .vds .0) (s .vde .0) y in-rows in
       let left : Paints 0 o p (at + s .bs .0) (at + s .ds .0) (from at (plainInk s pens table video y)) =
-            stretch at (s .bs .0) (s .ds .0) (λ k. getD pens 0 0) (plainInk s pens table video y) (omega (arith, r .ds-de, r .de-be, r .be-n))
-            (λ x a b. sym (border-ink s pens table video x y r
-              (record { left = a; right = omega (arith, r .ds-de, r .de-be); above = above; below = below })
-              (λ i. omega (arith, i .left))))
-            (rw (e-bs, e-ds) at e) in
+      stretch at (s .bs .0) (s .ds .0) (λ k. getD pens 0 0) (plainInk s pens table video y) (omega (arith, r .ds-de, r .de-be, r .be-n))
+      (λ x a b. sym (border-ink s pens table video x y r
+      (record { left = a; right = omega (arith, r .ds-de, r .de-be); above = above; below = below })
+      (λ i. omega (arith, i .left))))
+      (rw (e-bs, e-ds) at e) in
       let shown : Paints 0 p q (at + s .ds .0) (at + s .de .0) (from at (plainInk s pens table video y)) =
-            paint-as (from at (plainInk s pens table video y))
-            (λ k a b. sym (display-ink s pens table video (k - at) y r (record { left = omega arith; right = omega arith; above = rows .0; below = rows .1 })))
-            (paints-of (rw (left .len) (omega (arith, r .de-be, r .be-n))) f) in
+      paint-as (from at (plainInk s pens table video y))
+      (λ k a b. sym (display-ink s pens table video (k - at) y r (record { left = omega arith; right = omega arith; above = rows .0; below = rows .1 })))
+      (paints-of (rw (left .len) (omega (arith, r .de-be, r .be-n))) f) in
       let right : Paints 0 q m (at + s .de .0) (at + s .be .0) (from at (plainInk s pens table video y)) =
-            stretch at (s .de .0) (s .be .0) (λ k. getD pens 0 0) (plainInk s pens table video y) (rw (shown .len, left .len) (omega (arith, r .be-n)))
-            (λ x a b. sym (border-ink s pens table video x y r
-              (record { left = omega (arith, r .bs-ds, r .ds-de); right = b; above = above; below = below })
-              (λ i. omega (arith, i .right))))
-            (rw (e-de, e-be) at g) in
+      stretch at (s .de .0) (s .be .0) (λ k. getD pens 0 0) (plainInk s pens table video y) (rw (shown .len, left .len) (omega (arith, r .be-n)))
+      (λ x a b. sym (border-ink s pens table video x y r
+      (record { left = omega (arith, r .bs-ds, r .ds-de); right = b; above = above; below = below })
+      (λ i. omega (arith, i .right))))
+      (rw (e-de, e-be) at g) in
       paints-painted {d = 0} (omega (arith, r .be-n))
       (paint-next {d = 0} (omega (arith, r .bs-ds, r .ds-de)) (omega (arith, r .de-be)) (paint-next {d = 0} (omega (arith, r .bs-ds)) (omega (arith, r .ds-de)) left shown) right)
 
@@ -84,9 +84,9 @@ module _ (s : Setting) (r : Accepted s) (pens table video : List ℕ) (at y : �
   blank-law o p m hs n empty room none e-hs e-n e-empty e f =
       let sync = sync-paints o p room (simp (e-hs, e-empty) at e) in
       let rest : Paints 0 p m (at + s .hs .0) (at + s .n .0) (from at (plainInk s pens table video y)) =
-            stretch at (s .hs .0) (s .n .0) (λ k. blankOf s y) (plainInk s pens table video y) (rw (sync .len) room)
-            (λ x a b. sym (blank-ink s pens table video x y r a (λ i. not-bordered none (i .above) (i .below))))
-            (simp (e-hs, e-n, e-empty) at f) in
+      stretch at (s .hs .0) (s .n .0) (λ k. blankOf s y) (plainInk s pens table video y) (rw (sync .len) room)
+      (λ x a b. sym (blank-ink s pens table video x y r a (λ i. not-bordered none (i .above) (i .below))))
+      (simp (e-hs, e-n, e-empty) at f) in
       rw (add-zero at) at (paints-painted {d = 0} room (paint-next {d = 0} (omega arith) (omega (arith, r .hs-bs, r .bs-ds, r .ds-de, r .de-be, r .be-n)) sync rest))
 
   pub bordered-law : (o p q t m : List ℕ) (hs bs be n empty : ℕ) → at + s .n .0 ≤ length o → hs ≡ s .hs .0 → bs ≡ s .bs .0 → be ≡ s .be .0 → n ≡ s .n .0 → empty ≡ blankOf s y
@@ -96,15 +96,15 @@ module _ (s : Setting) (r : Accepted s) (pens table video : List ℕ) (at y : �
   bordered-law o p q t m hs bs be n empty room e-hs e-bs e-be e-n e-empty e f g h =
       let sync = sync-paints o p room (simp (e-hs, e-empty) at e) in
       let before : Paints 0 p q (at + s .hs .0) (at + s .bs .0) (from at (plainInk s pens table video y)) =
-            stretch at (s .hs .0) (s .bs .0) (λ k. blankOf s y) (plainInk s pens table video y) (rw (sync .len) (omega (arith, r .bs-ds, r .ds-de, r .de-be, r .be-n)))
-            (λ x a b. sym (blank-ink s pens table video x y r a (λ i. omega (arith, i .left))))
-            (simp (e-hs, e-bs, e-empty) at f) in
+      stretch at (s .hs .0) (s .bs .0) (λ k. blankOf s y) (plainInk s pens table video y) (rw (sync .len) (omega (arith, r .bs-ds, r .ds-de, r .de-be, r .be-n)))
+      (λ x a b. sym (blank-ink s pens table video x y r a (λ i. omega (arith, i .left))))
+      (simp (e-hs, e-bs, e-empty) at f) in
       let middle : Paints 0 q t (at + s .bs .0) (at + s .be .0) (from at (plainInk s pens table video y)) =
-            paints-of (rw (before .len, sync .len) (omega (arith, r .be-n))) g in
+      paints-of (rw (before .len, sync .len) (omega (arith, r .be-n))) g in
       let after : Paints 0 t m (at + s .be .0) (at + s .n .0) (from at (plainInk s pens table video y)) =
-            stretch at (s .be .0) (s .n .0) (λ k. blankOf s y) (plainInk s pens table video y) (rw (middle .len, before .len, sync .len) room)
-            (λ x a b. sym (blank-ink s pens table video x y r (omega (arith, r .hs-bs, r .bs-ds, r .ds-de, r .de-be)) (λ i. omega (arith, i .right))))
-            (simp (e-be, e-n, e-empty) at h) in
+      stretch at (s .be .0) (s .n .0) (λ k. blankOf s y) (plainInk s pens table video y) (rw (middle .len, before .len, sync .len) room)
+      (λ x a b. sym (blank-ink s pens table video x y r (omega (arith, r .hs-bs, r .bs-ds, r .ds-de, r .de-be)) (λ i. omega (arith, i .right))))
+      (simp (e-be, e-n, e-empty) at h) in
       rw (add-zero at) at
       (paints-painted {d = 0} room
       (paint-next {d = 0} (omega arith) (omega (arith, r .be-n))

@@ -41,11 +41,11 @@ next-from w at k d h = let e : k + 1 - at ≡ k - at + 1 = omega arith in rw e (
 pub fill-positive : (n d : ℕ) → n * d ≡ 32 → 0 < d
 fill-positive n d e =
     elim (lt-or-le 0 d) [
-      inl h ↦ h
-    | inr h ↦
-      let z : d ≡ 0 = omega arith in
-      let y : n * d ≡ 0 = rw z (mul-zero n) in
-      omega arith
+      | inl h ↦ h
+      | inr h ↦
+          let z : d ≡ 0 = omega arith in
+          let y : n * d ≡ 0 = rw z (mul-zero n) in
+          omega arith
     ]
 
 pub fill-most : (n d : ℕ) → n * d ≡ 32 → n ≤ 32

@@ -21,7 +21,15 @@ fn pair(cursor: &[u32], first: usize, i: usize) -> usize
 }
 
 // Pairs `low` up to `high` of a cursor raster whose pair 0 would stand at place `start`.
-fn pairs(out: &mut [u16], start: usize, low: usize, high: usize, pens: &[u16; 4], cursor: &[u32], first: usize)
+fn pairs(
+    out: &mut [u16],
+    start: usize,
+    low: usize,
+    high: usize,
+    pens: &[u16; 4],
+    cursor: &[u32],
+    first: usize,
+)
     requires { ⌜ (low ≤ high) × (high ≤ 32) × (start + high ≤ length (now out)) × (first + 2 ≤ length (now cursor)) ⌝ }
     ensures { λ _. ⌜ now (out .exit) ≡ painted (now (out .entry)) (start + low) (start + high) (pairInk (now (pens .entry)) (now (cursor .entry)) first start (now (out .entry))) ⌝ }
 {
@@ -55,5 +63,13 @@ pub fn cover(out: &mut [u16], at: usize, s: Setting, y: Rasters, pens: &[u16; 4]
     if high <= low {
         return;
     }
-    pairs(out, at + cx, low, high, pens, cursor, 2 * ((y.0 - s.vcs.0) as usize));
+    pairs(
+        out,
+        at + cx,
+        low,
+        high,
+        pens,
+        cursor,
+        2 * ((y.0 - s.vcs.0) as usize),
+    );
 }

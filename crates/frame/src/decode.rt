@@ -40,7 +40,15 @@ fn word(out: &mut [u16], at: usize, count: usize, chunks: usize, w: u32, d: u32,
 }
 
 // All pixels of a list of words.
-fn words(out: &mut [u16], at: usize, video: &[u32], count: usize, chunks: usize, d: u32, table: &[u16; 256])
+fn words(
+    out: &mut [u16],
+    at: usize,
+    video: &[u32],
+    count: usize,
+    chunks: usize,
+    d: u32,
+    table: &[u16; 256],
+)
     requires { ⌜ (at + length (now video) * (chunks * count) ≤ length (now out)) × (count ≤ 8) × (d ≤ 8) × (chunks * count * d ≡ 32) ⌝ }
     ensures { λ _. ⌜ now (out .exit) ≡ painted (now (out .entry)) at (at + length (now (video .entry)) * (chunks * count)) (from at (wordsInk (now (table .entry)) (now (video .entry)) d)) ⌝ }
 {

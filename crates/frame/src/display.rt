@@ -27,7 +27,14 @@ fn first_word(s: Setting, y: Rasters) -> usize
     ((y.0 - s.vds.0) as usize) * raster_words(s)
 }
 
-pub fn display(out: &mut [u16], at: usize, s: Setting, y: Rasters, table: &[u16; 256], video: &[u32])
+pub fn display(
+    out: &mut [u16],
+    at: usize,
+    s: Setting,
+    y: Rasters,
+    table: &[u16; 256],
+    video: &[u32],
+)
     requires { ⌜ Raster s at (now video) (now out) × (s .vds .0 ≤ y .0) × (y .0 < s .vde .0) ⌝ }
     ensures { λ _. ⌜ now (out .exit) ≡ painted (now (out .entry)) (at + s .ds .0) (at + s .de .0) (from at (displayInk s (now (table .entry)) (now (video .entry)) (y .0))) ⌝ }
 {

@@ -1,7 +1,7 @@
 // Cells made ready, once for each call: a display cell for each logical pixel, and the cells of border and cursor.
-use colours::colour;
 use crate::rows::row;
 use crate::rows::rows;
+use colours::colour;
 use registers::record::Registers;
 use registers::setting::Setting;
 use registers::units::Rasters;
@@ -46,7 +46,14 @@ pub fn paint_frame(out: &mut [u16], g: Registers, s: Setting, video: &[u32], cur
     rows(out, s, &inks, &table, video, cursor);
 }
 
-pub fn paint_raster(out: &mut [u16], g: Registers, s: Setting, y: Rasters, video: &[u32], cursor: &[u32])
+pub fn paint_raster(
+    out: &mut [u16],
+    g: Registers,
+    s: Setting,
+    y: Rasters,
+    video: &[u32],
+    cursor: &[u32],
+)
     requires { ⌜ Lent s (s .n .0) (now video) (now cursor) (now out) ⌝ }
     ensures { λ _. ⌜ now (out .exit) ≡ painted (now (out .entry)) 0 (s .n .0) (rasterCell g s (now (video .entry)) (now (cursor .entry)) (y .0)) ⌝ }
 {

@@ -28,7 +28,13 @@ fn frame_cells(s: Setting) -> usize
     wide(s.n) * (s.v.0 as usize)
 }
 
-pub fn judged_frame(g: Registers, s: Setting, video: &[u32], cursor: &[u32], out: &mut [u16]) -> Answer
+pub fn judged_frame(
+    g: Registers,
+    s: Setting,
+    video: &[u32],
+    cursor: &[u32],
+    out: &mut [u16],
+) -> Answer
     requires { ⌜ Accepted s ⌝ }
     ensures { λ r. ⌜ (told r ≡ judged (frameTable s (now (video .entry)) (now (cursor .entry)) (length (now (out .entry)))) tt)
         × (now (out .exit) ≡ unlessRefused (told r) (now (out .entry)) (painted (now (out .entry)) 0 (cells s) (frameCell g s (now (video .entry)) (now (cursor .entry))))) ⌝ }
@@ -43,7 +49,14 @@ pub fn judged_frame(g: Registers, s: Setting, video: &[u32], cursor: &[u32], out
     Answer::Done
 }
 
-pub fn judged_raster(g: Registers, s: Setting, video: &[u32], cursor: &[u32], y: Rasters, out: &mut [u16]) -> Answer
+pub fn judged_raster(
+    g: Registers,
+    s: Setting,
+    video: &[u32],
+    cursor: &[u32],
+    y: Rasters,
+    out: &mut [u16],
+) -> Answer
     requires { ⌜ Accepted s ⌝ }
     ensures { λ r. ⌜ (told r ≡ judged (rasterTable s (now (video .entry)) (now (cursor .entry)) (y .0) (length (now (out .entry)))) tt)
         × (now (out .exit) ≡ unlessRefused (told r) (now (out .entry)) (painted (now (out .entry)) 0 (s .n .0) (rasterCell g s (now (video .entry)) (now (cursor .entry)) (y .0)))) ⌝ }

@@ -22,7 +22,15 @@ fn blank(s: Setting, y: Rasters) -> u16
 }
 
 // From the border's start to its end, in a raster of the border.
-fn middle(out: &mut [u16], at: usize, s: Setting, y: Rasters, pens: &[u16; 4], table: &[u16; 256], video: &[u32])
+fn middle(
+    out: &mut [u16],
+    at: usize,
+    s: Setting,
+    y: Rasters,
+    pens: &[u16; 4],
+    table: &[u16; 256],
+    video: &[u32],
+)
     requires { ⌜ Raster s at (now video) (now out) × (s .vbs .0 ≤ y .0) × (y .0 < s .vbe .0) ⌝ }
     ensures { λ _. ⌜ now (out .exit) ≡ painted (now (out .entry)) (at + s .bs .0) (at + s .be .0) (from at (plainInk s (now (pens .entry)) (now (table .entry)) (now (video .entry)) (y .0))) ⌝ }
 {
@@ -38,7 +46,15 @@ fn middle(out: &mut [u16], at: usize, s: Setting, y: Rasters, pens: &[u16; 4], t
     fill(out, bs, be, border);
 }
 
-pub fn plain(out: &mut [u16], at: usize, s: Setting, y: Rasters, pens: &[u16; 4], table: &[u16; 256], video: &[u32])
+pub fn plain(
+    out: &mut [u16],
+    at: usize,
+    s: Setting,
+    y: Rasters,
+    pens: &[u16; 4],
+    table: &[u16; 256],
+    video: &[u32],
+)
     requires { ⌜ Raster s at (now video) (now out) ⌝ }
     ensures { λ _. ⌜ now (out .exit) ≡ painted (now (out .entry)) at (at + s .n .0) (from at (plainInk s (now (pens .entry)) (now (table .entry)) (now (video .entry)) (y .0))) ⌝ }
 {

@@ -10,7 +10,16 @@ ghost use Rattle.buffers.specs.Painted.{painted};
 ghost use Rattle.frame.specs.Lent.{Lent};
 ghost use Rattle.frame.specs.Ink.{from, ink, frameInk};
 
-pub fn row(out: &mut [u16], at: usize, s: Setting, y: Rasters, pens: &[u16; 4], table: &[u16; 256], video: &[u32], cursor: &[u32])
+pub fn row(
+    out: &mut [u16],
+    at: usize,
+    s: Setting,
+    y: Rasters,
+    pens: &[u16; 4],
+    table: &[u16; 256],
+    video: &[u32],
+    cursor: &[u32],
+)
     requires { ⌜ Lent s (at + s .n .0) (now video) (now cursor) (now out) ⌝ }
     ensures { λ _. ⌜ now (out .exit) ≡ painted (now (out .entry)) at (at + s .n .0) (from at (ink s (now (pens .entry)) (now (table .entry)) (now (video .entry)) (now (cursor .entry)) (y .0))) ⌝ }
 {
@@ -18,7 +27,14 @@ pub fn row(out: &mut [u16], at: usize, s: Setting, y: Rasters, pens: &[u16; 4], 
     cover(out, at, s, y, pens, cursor);
 }
 
-pub fn rows(out: &mut [u16], s: Setting, pens: &[u16; 4], table: &[u16; 256], video: &[u32], cursor: &[u32])
+pub fn rows(
+    out: &mut [u16],
+    s: Setting,
+    pens: &[u16; 4],
+    table: &[u16; 256],
+    video: &[u32],
+    cursor: &[u32],
+)
     requires { ⌜ Lent s (s .n .0 * s .v .0) (now video) (now cursor) (now out) ⌝ }
     ensures { λ _. ⌜ now (out .exit) ≡ painted (now (out .entry)) 0 (s .n .0 * s .v .0) (frameInk s (now (pens .entry)) (now (table .entry)) (now (video .entry)) (now (cursor .entry))) ⌝ }
 {

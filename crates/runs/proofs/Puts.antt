@@ -15,7 +15,7 @@ use Rattle.runs.proofs.Lengths.{length-decimal}
 
 -- one letter more
 pub bytes-turn : (l vs : List ℕ) (at k : ℕ) → k < length vs
-  → sets l (at + k) (drop k vs) ≡ sets (set l (at + k) (getD vs k 0)) (at + (k + 1)) (drop (k + 1) vs)
+    → sets l (at + k) (drop k vs) ≡ sets (set l (at + k) (getD vs k 0)) (at + (k + 1)) (drop (k + 1) vs)
 bytes-turn l vs at k h = let q : at + (k + 1) ≡ suc (at + k) = omega arith in rw (q, add-one, drop-cons vs k 0)
 
 pub bytes-done : (l vs : List ℕ) (at k : ℕ) → k ≡ length vs → sets l (at + k) (drop k vs) ≡ l
@@ -27,11 +27,11 @@ put-then {o} {p} {q} {at} a b s t =
     record {
       stored = t .stored ∙ (rw (s .stored, s .after) (sym (sets-append _ _ a b)));
       after = rw length-append (omega (arith, s .after, t .after));
-      inside = omega (arith, t .inside, ap length (s .stored) ∙ length-sets o at a)
+      inside = omega (arith, t .inside, ap length (s .stored) ∙ length-sets o at a);
     }
 
 pub put-decimal : {o p : List ℕ} {at x : ℕ} (n : ℕ) → at + places n ≤ length o → x ≡ at + places n → p ≡ sets o at (decimal n)
-  → Put o p at (decimal n) x
+    → Put o p at (decimal n) x
 put-decimal n h e s = record { stored = s; after = e ∙ rw length-decimal; inside = omega arith }
 
 pub few-digits : (n : ℕ) → places n ≤ 10

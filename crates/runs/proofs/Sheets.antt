@@ -53,19 +53,19 @@ module _ (words : List ℕ) (video cursor sound : ℕ) (a : Answer) (e : told a 
   words-refused why r q c =
       record {
         says = c ∙ rw (← e, q);
-        held = λ s h. never (sym (rw (← e, q) at h))
+        held = λ s h. never (sym (rw (← e, q) at h));
       }
 
   pub words-loaded : (n g : Registers) (r : Opened) → a ≡ answer.Done → n ≡ fresh
-    → g ≡ unlessRefused (loadTold (part words 0 video)) n (applied n (part words 0 video))
-    → checkSays (r .checked) ≡ pictureTold g (part words video cursor) (part words cursor sound)
-    → r .registers ≡ g → r .video ≡ video → r .cursor ≡ cursor → r .sound ≡ sound → OpenedWords words video cursor sound r
+      → g ≡ unlessRefused (loadTold (part words 0 video)) n (applied n (part words 0 video))
+      → checkSays (r .checked) ≡ pictureTold g (part words video cursor) (part words cursor sound)
+      → r .registers ≡ g → r .video ≡ video → r .cursor ≡ cursor → r .sound ≡ sound → OpenedWords words video cursor sound r
   unfolding wordsTold
   words-loaded n g r q f h c i j k l =
       let g-is : g ≡ applied fresh (part words 0 video) = h ∙ rw (← e, q, f) in
       record {
         says = c ∙ rw (← e, q, g-is);
-        held = λ s t. (i ∙ g-is, j, k, l)
+        held = λ s t. (i ∙ g-is, j, k, l);
       }
 
 -- a file judged
@@ -75,16 +75,16 @@ module _ (file words : List ℕ) (r : Opened) where
   from-large h c =
       record {
         says = c ∙ rw (lt-ltb mostInput (length file) h);
-        held = λ s t. never (sym (rw (lt-ltb mostInput (length file) h) at t))
+        held = λ s t. never (sym (rw (lt-ltb mostInput (length file) h) at t));
       }
 
   pub from-wrong : length file ≤ mostInput → (x : Reading) (why : Refusal) → toldRead x ≡ readTold file → x ≡ reading.Refused why
-    → checkSays (r .checked) ≡ refusal why → OpenedFrom file words r
+      → checkSays (r .checked) ≡ refusal why → OpenedFrom file words r
   unfolding sheetTold
   from-wrong h x why e q c =
       record {
         says = c ∙ rw (le-ltb mostInput (length file) h, ← e, q);
-        held = λ s t. never (sym (rw (le-ltb mostInput (length file) h, ← e, q) at t))
+        held = λ s t. never (sym (rw (le-ltb mostInput (length file) h, ← e, q) at t));
       }
 
 -- a plate's sections, in order
@@ -104,7 +104,7 @@ placed file x p e q =
       v-r = rw (g .are) (o .v-r);
       c-v = rw (g .are) (o .c-v);
       s-c = rw (g .are) (o .s-c);
-      whole = rw (g .are) (o .whole)
+      whole = rw (g .are) (o .whole);
     }
 
 -- a part of words that were stored from the first place on
@@ -114,7 +114,7 @@ part-sets o ws from to a b c =
     (take-append-le (to - from) (drop from ws) _ (rw length-drop (omega arith)))
 
 module _ (file o new : List ℕ) (x : Reading) (p : Sections) (short : length file ≤ mostInput) (e : toldRead x ≡ readTold file)
-  (q : x ≡ reading.Plate p) (room : 16384 ≤ length o) (after : new ≡ unlessRefused (copyTold file (length o)) o (sets o 0 (copied file))) where
+    (q : x ≡ reading.Plate p) (room : 16384 ≤ length o) (after : new ≡ unlessRefused (copyTold file (length o)) o (sets o 0 (copied file))) where
   length-copied : length (copied file) ≡ p .r
   length-copied =
       let k = placed file x p e q in
@@ -154,15 +154,15 @@ module _ (file o new : List ℕ) (x : Reading) (p : Sections) (short : length fi
       record {
         says = w .says ∙ same-told;
         held = λ s t.
-          let h = w .held s (same-told ∙ t) in
-          let k = placed file x p e q in
-          let n : length new ≡ length o = rw copied-out (length-sets o 0 (copied file)) in
-          record {
-            registers = h .0 ∙ ap (applied fresh) register-part;
-            video-first = omega (arith, h .1, h .2, k .c-v);
-            cursor-first = omega (arith, h .2, h .3, k .s-c);
-            inside = omega (arith, h .3, k .whole, n);
-            video = rw (h .1, h .2) video-part;
-            cursor = rw (h .2, h .3) cursor-part
-          }
+            let h = w .held s (same-told ∙ t) in
+            let k = placed file x p e q in
+            let n : length new ≡ length o = rw copied-out (length-sets o 0 (copied file)) in
+            record {
+              registers = h .0 ∙ ap (applied fresh) register-part;
+              video-first = omega (arith, h .1, h .2, k .c-v);
+              cursor-first = omega (arith, h .2, h .3, k .s-c);
+              inside = omega (arith, h .3, k .whole, n);
+              video = rw (h .1, h .2) video-part;
+              cursor = rw (h .2, h .3) cursor-part;
+            };
       }

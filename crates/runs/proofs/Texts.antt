@@ -68,7 +68,7 @@ module _ (g : Registers) (video cursor : List ℕ) (s : Setting) (e : pictureTol
   picture-parts = go (checkTold g) refl e
     where
       go : (t : Told Setting) → checkTold g ≡ t → andThen t (λ s. judged (row 11 (wordsWrong s video cursor) 0 ∷ []) s) ≡ given s
-        → (checkTold g ≡ given s) × (wordsWrong s video cursor ≡ false)
+          → (checkTold g ≡ given s) × (wordsWrong s video cursor ≡ false)
       go (refused n d) q h = never (sym h)
       go (given z) q h =
           let p = given-passes z (row 11 (wordsWrong z video cursor) 0 ∷ []) s h in
@@ -87,7 +87,7 @@ module _ (g : Registers) (video cursor : List ℕ) (s : Setting) (e : pictureTol
 
   -- the cells of a raster, as they stand in lent memory
   pub raster-values : (y : ℕ) (o cells : List ℕ) → y < s .v .0 → s .n .0 ≤ length o → cells ≡ rasterHeld g video cursor y o
-    → take (s .n .0) cells ≡ valuesFrom (rasterCell g s video cursor y) 0 (s .n .0)
+      → take (s .n .0) cells ≡ valuesFrom (rasterCell g s video cursor y) 0 (s .n .0)
   unfolding rasterHeld
   raster-values y o cells a b h =
       ap (take (s .n .0)) (h ∙ rw (raster-told y (length o) a b, ← accepted-setting g s (picture-parts .0)))
@@ -118,8 +118,8 @@ unfolding sheetTold
 told-picture file s e = go (ltb mostInput (length file)) refl (readTold file) refl (loadTold (registerWords file)) refl e
   where
     go : (b : Bool) → ltb mostInput (length file) ≡ b → (t : Told Sections) → readTold file ≡ t → (l : Told (Unit {0})) → loadTold (registerWords file) ≡ l
-      → andThen (pick b (refused 15 0) (given (length file))) (λ _. andThen t (λ _. andThen l (λ _. pictureTold (registersOf file) (videoList file) (cursorList file)))) ≡ given s
-      → pictureTold (registersOf file) (videoList file) (cursorList file) ≡ given s
+        → andThen (pick b (refused 15 0) (given (length file))) (λ _. andThen t (λ _. andThen l (λ _. pictureTold (registersOf file) (videoList file) (cursorList file)))) ≡ given s
+        → pictureTold (registersOf file) (videoList file) (cursorList file) ≡ given s
     go true p t q l w h = never (sym h)
     go false p (refused n d) q l w h = never (sym h)
     go false p (given z) q (refused n d) w h = never (sym h)
@@ -150,7 +150,7 @@ module _ (file words : List ℕ) (k : ℕ) (r : Opened) (o : OpenedFrom file wor
           video-first = h .video-first;
           cursor-first = h .cursor-first;
           inside = h .inside;
-          told = rw (h .video, h .cursor, h .registers) (told-picture file s told-sheet)
+          told = rw (h .video, h .cursor, h .registers) (told-picture file s told-sheet);
         }
 
     pub line-sheet : sheetLine r s words k ≡ lineAt file k

@@ -56,7 +56,7 @@ wordsTold words video cursor sound =
 pub record OpenedWords (words : List ℕ) (video cursor sound : ℕ) (r : Opened) : Type 0 where
   pub says : checkSays (r .checked) ≡ wordsTold words video cursor sound
   pub held : (s : Setting) → wordsTold words video cursor sound ≡ given s
-    → (r .registers ≡ applied fresh (part words 0 video)) × (r .video ≡ video) × (r .cursor ≡ cursor) × (r .sound ≡ sound)
+      → (r .registers ≡ applied fresh (part words 0 video)) × (r .video ≡ video) × (r .cursor ≡ cursor) × (r .sound ≡ sound)
 
 pub record Held (file words : List ℕ) (r : Opened) : Type 0 where
   pub registers : r .registers ≡ registersOf file

@@ -32,7 +32,14 @@ fn head_line(out: &mut [u8], g: Registers, s: Setting, video: &[u32], cursor: &[
 }
 
 // The line of raster y of a plate that is not refused.
-fn raster_line(out: &mut [u8], g: Registers, s: Setting, video: &[u32], cursor: &[u32], y: u16) -> usize
+fn raster_line(
+    out: &mut [u8],
+    g: Registers,
+    s: Setting,
+    video: &[u32],
+    cursor: &[u32],
+    y: u16,
+) -> usize
     requires { ⌜ (8256 ≤ length (now out)) × (y < s .v .0) × (pictureTold g (now video) (now cursor) ≡ given s) ⌝ }
     ensures { λ r. ⌜ Put (now (out .entry)) (now (out .exit)) 0 (rasterLine g s (now (video .entry)) (now (cursor .entry)) y) r ⌝ }
 {
@@ -43,7 +50,14 @@ fn raster_line(out: &mut [u8], g: Registers, s: Setting, video: &[u32], cursor: 
 }
 
 // Line k of a plate that is not refused.
-fn picture_line(out: &mut [u8], g: Registers, s: Setting, video: &[u32], cursor: &[u32], k: usize) -> usize
+fn picture_line(
+    out: &mut [u8],
+    g: Registers,
+    s: Setting,
+    video: &[u32],
+    cursor: &[u32],
+    k: usize,
+) -> usize
     requires { ⌜ (8256 ≤ length (now out)) × (length (now video) < 65536) × (pictureTold g (now video) (now cursor) ≡ given s) ⌝ }
     ensures { λ r. ⌜ Put (now (out .entry)) (now (out .exit)) 0 (pictureLine g s (now (video .entry)) (now (cursor .entry)) k) r ⌝ }
 {
@@ -64,7 +78,14 @@ fn sheet_line(out: &mut [u8], opened: Opened, s: Setting, words: &[u32], k: usiz
     let video = opened.video;
     let cursor = opened.cursor;
     let sound = opened.sound;
-    picture_line(out, opened.registers, s, &words[video..cursor], &words[cursor..sound], k)
+    picture_line(
+        out,
+        opened.registers,
+        s,
+        &words[video..cursor],
+        &words[cursor..sound],
+        k,
+    )
 }
 
 // Line k of the text of a plate file, and its length; no bytes past the last line. Line 0 is the head or the refusal.

@@ -22,12 +22,10 @@ fn put_bytes(out: &mut [u8], at: usize, text: &[u8]) -> usize
 // A number behind some letters.
 fn put_labelled(out: &mut [u8], at: usize, label: &[u8], n: u32) -> usize
     requires { ⌜ at + length (now label) + 10 ≤ length (now out) ⌝ }
-    ensures {
-        λ r. ⌜
-            Put (now (out .entry)) (now (out .exit)) at (labelled (now (label .entry)) n) r
-            × (r ≤ at + length (now (label .entry)) + 10)
-        ⌝
-    }
+    ensures { λ r. ⌜
+        Put (now (out .entry)) (now (out .exit)) at (labelled (now (label .entry)) n) r
+        × (r ≤ at + length (now (label .entry)) + 10)
+        ⌝ }
 {
     let next = put_bytes(out, at, label);
     put_number(out, next, n)

@@ -28,7 +28,7 @@ judged-frame-requires c κs = accepted (c .before .before .before .before .befor
 
 -- src/lib.rt:25:1
 returns : tie.Need-returns
-returns c = frame-refused (c .before .before .before .before .before .before .before .args .g) _ _ _  _ _ (sym (c .before .before .before .check .ensures) ∙ ap checkSays (c .before .checked .given .1))
+returns c = frame-refused (c .before .before .before .before .before .before .before .args .g) _ _ _ _ _ (sym (c .before .before .before .check .ensures) ∙ ap checkSays (c .before .checked .given .1))
 
 -- src/lib.rt:25:1
 same-length : tie.Need-same-length
@@ -36,7 +36,7 @@ same-length c = search needs
 
 -- src/lib.rt:25:1
 returns-2 : tie.Need-returns-2
-returns-2 c = frame-judged (c .before .before .before .before .before .before .before .before .before .before .before .args .g) _ _ _  _ _ _ (sym (c .before .before .before .before .before .before .before .check .ensures) ∙ ap checkSays (c .before .before .before .before .before .checked2 .given .1)) (c .before .before .judged-frame .ensures .0) (c .before .before .judged-frame .ensures .1)
+returns-2 c = frame-judged (c .before .before .before .before .before .before .before .before .before .before .before .args .g) _ _ _ _ _ _ (sym (c .before .before .before .before .before .before .before .check .ensures) ∙ ap checkSays (c .before .before .before .before .before .checked2 .given .1)) (c .before .before .judged-frame .ensures .0) (c .before .before .judged-frame .ensures .1)
 
 pub frame-spec : {M : Type 1} → statement M
 frame-spec =

@@ -1,39 +1,28 @@
 use Rattle.c_calls.proofs.Written.{unmeasured-refused, unmeasured-short}
 use Rattle.plates.specs.Write.{toldWritten}
-use mathlib.Core.Path.{_≡_, refl, sym, _∙_, ap}
+use mathlib.Core.Path.{sym, _∙_, ap}
 use borrow.Author.Needs.{needs}
 use Rattle.c_calls.proofs.files.refuse_unmeasured.Statement.{statement}
 use Rattle.c_calls.proofs.files.refuse_unmeasured.Tie as tie
-use Rattle.c_calls.proofs.files.refuse_unmeasured.Reads as reads
-use Rattle.c_calls.proofs.files.refuse_unmeasured.Lts as lts
-use Rattle.c_calls.proofs.code.refused.Reads as refused-reads
-use Rattle.plates.proofs.write.Reads as write-reads
 
--- src/files.rt:73:58
 slice-aggregate-write : tie.Need-slice-aggregate-write
 slice-aggregate-write c = search needs
 
--- src/files.rt:73:11
 write-requires : tie.Need-write-requires
 write-requires c κs = search needs
 
--- src/files.rt:74:26
 enum-known-why : tie.Need-enum-known-why
 enum-known-why c = search needs
 
--- src/files.rt:74:34
 refused-requires : tie.Need-refused-requires
 refused-requires c κs = search needs
 
--- src/files.rt:75:30
 enum-told : tie.Need-enum-told
 enum-told c = search needs
 
--- src/files.rt:67:1
 returns : tie.Need-returns
 returns c = unmeasured-refused (c .before .before .before .before .before .before .before .before .before .before .before .args .registers .now) (c .before .before .before .before .before .before .before .before .before .before .before .args .video .now) (c .before .before .before .before .before .before .before .before .before .before .before .args .cursor .now) (c .before .before .before .before .before .before .before .before .before .before .before .args .sound .now) _ _ _ (sym (c .before .before .before .before .before .write .ensures .0) ∙ ap toldWritten (c .before .before .why .given .1)) (c .refused .ensures)
 
--- src/files.rt:67:1
 returns-2 : tie.Need-returns-2
 returns-2 c = unmeasured-short (c .before .before .before .before .before .before .before .before .before .args .registers .now) (c .before .before .before .before .before .before .before .before .before .args .video .now) (c .before .before .before .before .before .before .before .before .before .args .cursor .now) (c .before .before .before .before .before .before .before .before .before .args .sound .now) _ (sym (c .before .before .before .write .ensures .0) ∙ ap toldWritten (c .enum-told .given .1))
 

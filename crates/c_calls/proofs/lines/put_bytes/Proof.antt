@@ -8,8 +8,6 @@ use lib.Seq.{sets}
 use Rattle.runs.proofs.Puts.{bytes-turn, bytes-done}
 use Rattle.c_calls.proofs.lines.put_bytes.Statement.{statement}
 use Rattle.c_calls.proofs.lines.put_bytes.Tie as tie
-use Rattle.c_calls.proofs.lines.put_bytes.Reads as reads
-use Rattle.c_calls.proofs.lines.put_bytes.Lts as lts
 
 abbrev Inv-loop : tie.InvT-loop
 Inv-loop out₀ at bytes k₀ out k = (k ≤ length bytes) × (length out ≡ length out₀) × (sets out (at + k) (drop k bytes) ≡ sets out₀ at bytes)
@@ -17,42 +15,33 @@ Inv-loop out₀ at bytes k₀ out k = (k ≤ length bytes) × (length out ≡ le
 abbrev μ-loop : tie.MeasureT-loop
 μ-loop out₀ at bytes k₀ out k = length bytes - k
 
--- src/lines.rt:22:5
 loop-holds : tie.Need-loop-holds Inv-loop μ-loop
 loop-holds c = (omega arith, refl, ap (λ (i : ℕ). sets (c .args .out .now) i (c .args .bytes .now)) (add-zero (c .args .at)))
 
--- src/lines.rt:23:23
 shared-slice-read-out : tie.Need-shared-slice-read-out Inv-loop μ-loop
 shared-slice-read-out c = search needs
 
--- src/lines.rt:23:13
 add-out : tie.Need-add-out Inv-loop μ-loop
 add-out c = search needs
 
--- src/lines.rt:23:9
 slice-write-out : tie.Need-slice-write-out Inv-loop μ-loop
 slice-write-out c = search needs
 
--- src/lines.rt:24:9
 add-k : tie.Need-add-k Inv-loop μ-loop
 add-k c = search needs
 
--- src/lines.rt:22:5
 loop-less : tie.Need-loop-less Inv-loop μ-loop
 loop-less c = search needs
 
--- src/lines.rt:22:5
 loop-again : tie.Need-loop-again Inv-loop μ-loop
 loop-again c =
     let s = c .before .before .before in
     let l = c .before .before .loop in
     (omega arith, simp length-set (l .inv .1), sym (bytes-turn (l .out) (s .args .bytes .now) (s .args .at) (l .k) (omega arith)) ∙ l .inv .2)
 
--- src/lines.rt:17:1
 same-length : tie.Need-same-length Inv-loop μ-loop
 same-length c = c .before .loop .inv .1
 
--- src/lines.rt:17:1
 returns : tie.Need-returns Inv-loop μ-loop
 returns c =
     let s = c .before .before in

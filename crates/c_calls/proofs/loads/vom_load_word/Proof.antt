@@ -2,82 +2,59 @@ use Rattle.registers.specs.Table.{told}
 use Rattle.registers.specs.Record.{storedOf, wordTold}
 use Rattle.c_calls.proofs.Loading.{load-short, load-refused, load-done}
 use Rattle.c_calls.specs.Load.{wordCall, wordValues, wordWritten}
-use Rattle.c_calls.proofs.Records.{no-record, a-record, long-enough, told-short, told-by}
-use mathlib.Core.Path.{_≡_, refl, sym, _∙_, ap}
+use Rattle.c_calls.proofs.Records.{long-enough}
+use mathlib.Core.Path.{sym, _∙_, ap}
 use borrow.Author.Needs.{needs}
 use Rattle.c_calls.proofs.loads.vom_load_word.Statement.{statement}
 use Rattle.c_calls.proofs.loads.vom_load_word.Tie as tie
-use Rattle.c_calls.proofs.loads.vom_load_word.Reads as reads
-use Rattle.c_calls.proofs.loads.vom_load_word.Lts as lts
-use Rattle.c_calls.proofs.code.refused.Reads as refused-reads
-use Rattle.c_calls.proofs.record.lacks.Reads as lacks-reads
-use Rattle.c_calls.proofs.record.put_record.Reads as put-record-reads
-use Rattle.c_calls.proofs.record.record_of.Reads as record-of-reads
-use Rattle.registers.proofs.record.Registers.load_word.Reads as load-word-reads
 
--- src/loads.rt:44:8
 lacks-requires : tie.Need-lacks-requires
 lacks-requires c κs = search needs
 
--- src/loads.rt:45:9
 same-length : tie.Need-same-length
 same-length c = search needs
 
--- src/loads.rt:45:9
 same-length-2 : tie.Need-same-length-2
 same-length-2 c = search needs
 
--- src/loads.rt:45:9
 returns : tie.Need-returns
 unfolding wordCall wordValues wordWritten
 returns c = load-short (c .before .before .before .before .before .before .args .values .now) (c .before .before .before .before .before .before .args .written .now) (wordTold (c .before .before .before .before .before .before .args .word)) (λ g. storedOf g (c .before .before .before .before .before .before .args .word)) (sym (c .before .lacks .ensures) ∙ c .if1 .taken)
 
--- src/loads.rt:47:18
 record-of-requires : tie.Need-record-of-requires
 record-of-requires c κs = long-enough (c .before .before .before .before .before .before .before .before .args .values .now) (c .before .before .before .before .before .before .before .before .args .written .now) (sym (c .before .before .before .lacks .ensures) ∙ c .before .before .if1 .left)
 
--- src/loads.rt:47:9
 load-word-requires : tie.Need-load-word-requires
 load-word-requires c κs = search needs
 
--- src/loads.rt:50:25
 enum-known-answer : tie.Need-enum-known-answer
 enum-known-answer c = search needs
 
--- src/loads.rt:50:33
 refused-requires : tie.Need-refused-requires
 refused-requires c κs = search needs
 
--- src/loads.rt:52:42
 enum-told : tie.Need-enum-told
 enum-told c = search needs
 
--- src/loads.rt:52:13
 put-record-requires : tie.Need-put-record-requires
 put-record-requires c κs = long-enough (c .before .before .before .before .before .before .before .before .before .before .before .before .before .before .args .values .now) (c .before .before .before .before .before .before .before .before .before .before .before .before .before .before .args .written .now) (sym (c .before .before .before .before .before .before .before .before .before .lacks .ensures) ∙ c .before .before .before .before .before .before .before .before .if1 .left)
 
--- src/loads.rt:36:1
 same-length-3 : tie.Need-same-length-3
 same-length-3 c = search needs
 
--- src/loads.rt:36:1
 same-length-4 : tie.Need-same-length-4
 same-length-4 c = search needs
 
--- src/loads.rt:36:1
 returns-2 : tie.Need-returns-2
 unfolding wordCall wordValues wordWritten
 returns-2 c = load-refused (c .before .before .before .before .before .before .before .before .before .before .before .before .before .before .args .values .now) (c .before .before .before .before .before .before .before .before .before .before .before .before .before .before .args .written .now) (wordTold (c .before .before .before .before .before .before .before .before .before .before .before .before .before .before .args .word)) (λ g. storedOf g (c .before .before .before .before .before .before .before .before .before .before .before .before .before .before .args .word)) _ _ _ (sym (c .before .before .before .before .before .before .before .before .before .lacks .ensures) ∙ c .before .before .before .before .before .before .before .before .if1 .left) (sym (c .before .before .before .before .load-word .ensures .0) ∙ ap told (c .before .before .answer .given .1)) (c .refused .ensures)
 
--- src/loads.rt:36:1
 same-length-5 : tie.Need-same-length-5
 same-length-5 c = search needs
 
--- src/loads.rt:36:1
 same-length-6 : tie.Need-same-length-6
 same-length-6 c = search needs
 
--- src/loads.rt:36:1
 returns-3 : tie.Need-returns-3
 unfolding wordCall wordValues wordWritten
 returns-3 c = load-done (c .before .before .before .before .before .before .before .before .before .before .before .before .before .before .before .before .before .before .before .args .values .now) (c .before .before .before .before .before .before .before .before .before .before .before .before .before .before .before .before .before .before .before .args .written .now) (wordTold (c .before .before .before .before .before .before .before .before .before .before .before .before .before .before .before .before .before .before .before .args .word)) (λ g. storedOf g (c .before .before .before .before .before .before .before .before .before .before .before .before .before .before .before .before .before .before .before .args .word)) _ _ _ _ (sym (c .before .before .before .before .before .before .before .before .before .before .before .before .before .before .lacks .ensures) ∙ c .before .before .before .before .before .before .before .before .before .before .before .before .before .if1 .left) (c .before .before .before .before .before .before .before .before .before .before .record-of .ensures) (c .before .before .before .before .before .before .before .before .before .load-word .ensures .1) (sym (c .before .before .before .before .before .before .before .before .before .load-word .ensures .0) ∙ ap told (c .before .before .before .before .before .before .before .enum-told .given .1)) (c .before .before .before .before .put-record .ensures .0) (c .before .before .before .before .put-record .ensures .1)

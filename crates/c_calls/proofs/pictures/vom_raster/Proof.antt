@@ -2,44 +2,31 @@ use Rattle.frame.specs.Frame.{rasterTold, rasterHeld}
 use Rattle.c_calls.specs.Pictures.{rasterCall, rasterLeaves}
 use Rattle.c_calls.proofs.Pictured.{picture-short, picture-by}
 use lib.ListN.{length}
-use Rattle.c_calls.proofs.Records.{no-record, a-record, long-enough, told-short, told-by}
-use mathlib.Core.Path.{_≡_, refl, sym, _∙_, ap}
+use Rattle.c_calls.proofs.Records.{long-enough}
+use mathlib.Core.Path.{sym, _∙_}
 use borrow.Author.Needs.{needs}
 use Rattle.c_calls.proofs.pictures.vom_raster.Statement.{statement}
 use Rattle.c_calls.proofs.pictures.vom_raster.Tie as tie
-use Rattle.c_calls.proofs.pictures.vom_raster.Reads as reads
-use Rattle.c_calls.proofs.pictures.vom_raster.Lts as lts
-use Rattle.c_calls.proofs.code.answered.Reads as answered-reads
-use Rattle.c_calls.proofs.record.lacks.Reads as lacks-reads
-use Rattle.c_calls.proofs.record.record_of.Reads as record-of-reads
-use Rattle.frame.proofs.raster.Reads as raster-reads
 
--- src/pictures.rt:49:8
 lacks-requires : tie.Need-lacks-requires
 lacks-requires c κs = search needs
 
--- src/pictures.rt:50:9
 returns : tie.Need-returns
 unfolding rasterCall rasterLeaves
 returns c = picture-short (c .before .before .before .before .before .before .before .args .values .now) (c .before .before .before .before .before .before .before .args .written .now) (c .before .before .before .before .before .before .before .args .cells .now) (λ g. rasterTold g (c .before .before .before .before .before .before .before .args .video .now) (c .before .before .before .before .before .before .before .args .cursor .now) (c .before .before .before .before .before .before .before .args .y) (length (c .before .before .before .before .before .before .before .args .cells .now))) (λ g. rasterHeld g (c .before .before .before .before .before .before .before .args .video .now) (c .before .before .before .before .before .before .before .args .cursor .now) (c .before .before .before .before .before .before .before .args .y) (c .before .before .before .before .before .before .before .args .cells .now)) (sym (c .before .lacks .ensures) ∙ c .if1 .taken)
 
--- src/pictures.rt:52:28
 record-of-requires : tie.Need-record-of-requires
 record-of-requires c κs = long-enough (c .before .before .before .before .before .before .before .args .values .now) (c .before .before .before .before .before .before .before .args .written .now) (sym (c .before .lacks .ensures) ∙ c .if1 .left)
 
--- src/pictures.rt:52:14
 raster-requires : tie.Need-raster-requires
 raster-requires c κs = search needs
 
--- src/pictures.rt:52:5
 answered-requires : tie.Need-answered-requires
 answered-requires c κs = search needs
 
--- src/pictures.rt:34:1
 same-length : tie.Need-same-length
 same-length c = search needs
 
--- src/pictures.rt:34:1
 returns-2 : tie.Need-returns-2
 unfolding rasterCall rasterLeaves
 returns-2 c = picture-by (c .before .before .before .before .before .before .before .before .before .before .before .before .before .args .values .now) (c .before .before .before .before .before .before .before .before .before .before .before .before .before .args .written .now) (c .before .before .before .before .before .before .before .before .before .before .before .before .before .args .cells .now) (λ g. rasterTold g (c .before .before .before .before .before .before .before .before .before .before .before .before .before .args .video .now) (c .before .before .before .before .before .before .before .before .before .before .before .before .before .args .cursor .now) (c .before .before .before .before .before .before .before .before .before .before .before .before .before .args .y) (length (c .before .before .before .before .before .before .before .before .before .before .before .before .before .args .cells .now))) (λ g. rasterHeld g (c .before .before .before .before .before .before .before .before .before .before .before .before .before .args .video .now) (c .before .before .before .before .before .before .before .before .before .before .before .before .before .args .cursor .now) (c .before .before .before .before .before .before .before .before .before .before .before .before .before .args .y) (c .before .before .before .before .before .before .before .before .before .before .before .before .before .args .cells .now)) _ _ _ _ (sym (c .before .before .before .before .before .before .before .lacks .ensures) ∙ c .before .before .before .before .before .before .if1 .left) (c .before .before .before .before .before .record-of .ensures) (c .before .before .before .raster .ensures .0) (c .before .before .before .raster .ensures .1) (c .answered .ensures)

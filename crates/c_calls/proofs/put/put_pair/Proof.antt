@@ -2,26 +2,19 @@ use borrow.Author.Tests.{lt-ltb, le-ltb}
 use borrow.Author.Needs.{needs}
 use Rattle.c_calls.proofs.put.put_pair.Statement.{statement}
 use Rattle.c_calls.proofs.put.put_pair.Tie as tie
-use Rattle.c_calls.proofs.put.put_pair.Reads as reads
-use Rattle.c_calls.proofs.put.put_pair.Lts as lts
 
--- src/put.rt:35:9
 returns : tie.Need-returns
 returns c = rw (lt-ltb _ _ (c .if1 .taken))
 
--- src/put.rt:37:5
 slice-write-out : tie.Need-slice-write-out
 slice-write-out c = search needs
 
--- src/put.rt:38:5
 slice-write-out-2 : tie.Need-slice-write-out-2
 slice-write-out-2 c = search needs
 
--- src/put.rt:31:1
 same-length : tie.Need-same-length
 same-length c = search needs
 
--- src/put.rt:31:1
 returns-2 : tie.Need-returns-2
 returns-2 c = rw (le-ltb _ _ (c .if1 .left))
 

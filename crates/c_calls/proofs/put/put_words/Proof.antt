@@ -6,8 +6,6 @@ use lib.Seq.{sets}
 use Rattle.buffers.proofs.Sets.{sets-turn, sets-done}
 use Rattle.c_calls.proofs.put.put_words.Statement.{statement}
 use Rattle.c_calls.proofs.put.put_words.Tie as tie
-use Rattle.c_calls.proofs.put.put_words.Reads as reads
-use Rattle.c_calls.proofs.put.put_words.Lts as lts
 
 abbrev Inv-loop : tie.InvT-loop
 Inv-loop out₀ values k₀ out k = (k ≤ length values) × (length out ≡ length out₀) × (sets out₀ 0 values ≡ sets out k (drop k values))
@@ -15,46 +13,36 @@ Inv-loop out₀ values k₀ out k = (k ≤ length values) × (length out ≡ len
 abbrev μ-loop : tie.MeasureT-loop
 μ-loop out₀ values k₀ out k = length values - k
 
--- src/put.rt:13:5
 loop-holds : tie.Need-loop-holds Inv-loop μ-loop
 loop-holds c = search needs
 
--- src/put.rt:14:18
 mul-out : tie.Need-mul-out Inv-loop μ-loop
 mul-out c = search needs
 
--- src/put.rt:14:18
 shared-slice-read-out : tie.Need-shared-slice-read-out Inv-loop μ-loop
 shared-slice-read-out c = search needs
 
--- src/put.rt:14:9
 mul-out-2 : tie.Need-mul-out-2 Inv-loop μ-loop
 mul-out-2 c = search needs
 
--- src/put.rt:14:9
 slice-write-out : tie.Need-slice-write-out Inv-loop μ-loop
 slice-write-out c = search needs
 
--- src/put.rt:15:9
 add-k : tie.Need-add-k Inv-loop μ-loop
 add-k c = search needs
 
--- src/put.rt:13:5
 loop-less : tie.Need-loop-less Inv-loop μ-loop
 loop-less c = search needs
 
--- src/put.rt:13:5
 loop-again : tie.Need-loop-again Inv-loop μ-loop
 loop-again c =
     let s = c .before .before .before in
     let l = c .before .before .loop in
     (search needs, search needs, l .inv .2 ∙ sets-turn (l .out) (s .args .values .now) (l .k) 0 (search needs))
 
--- src/put.rt:8:1
 same-length : tie.Need-same-length Inv-loop μ-loop
 same-length c = search needs
 
--- src/put.rt:8:1
 returns : tie.Need-returns Inv-loop μ-loop
 returns c =
     let s = c .before .before in

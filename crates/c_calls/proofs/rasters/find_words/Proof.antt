@@ -1,34 +1,24 @@
 use Rattle.stretch.specs.Stretch.{stretchTold}
 use Rattle.c_calls.specs.Pictures.{foundTold}
-use Rattle.c_calls.proofs.Records.{no-record, a-record, long-enough, told-short, told-by}
-use mathlib.Core.Path.{_≡_, refl, sym, _∙_, ap}
+use Rattle.c_calls.proofs.Records.{long-enough, told-short, told-by}
+use mathlib.Core.Path.{sym, _∙_}
 use borrow.Author.Needs.{needs}
 use Rattle.c_calls.proofs.rasters.find_words.Statement.{statement}
 use Rattle.c_calls.proofs.rasters.find_words.Tie as tie
-use Rattle.c_calls.proofs.rasters.find_words.Reads as reads
-use Rattle.c_calls.proofs.rasters.find_words.Lts as lts
-use Rattle.c_calls.proofs.record.lacks.Reads as lacks-reads
-use Rattle.c_calls.proofs.record.record_of.Reads as record-of-reads
-use Rattle.stretch.proofs.found.find.Reads as find-reads
 
--- src/rasters.rt:22:8
 lacks-requires : tie.Need-lacks-requires
 lacks-requires c κs = search needs
 
--- src/rasters.rt:23:9
 returns : tie.Need-returns
 unfolding foundTold
 returns c = told-short _ _ (λ g. stretchTold g (c .before .before .before .before .before .args .video .now) (c .before .before .before .before .before .args .y)) (sym (c .before .lacks .ensures) ∙ c .if1 .taken)
 
--- src/rasters.rt:25:10
 record-of-requires : tie.Need-record-of-requires
 record-of-requires c κs = long-enough (c .before .before .before .before .before .args .values .now) (c .before .before .before .before .before .args .written .now) (sym (c .before .lacks .ensures) ∙ c .if1 .left)
 
--- src/rasters.rt:25:5
 find-requires : tie.Need-find-requires
 find-requires c κs = search needs
 
--- src/rasters.rt:19:1
 returns-2 : tie.Need-returns-2
 unfolding foundTold
 returns-2 c = told-by _ _ (λ g. stretchTold g (c .before .before .before .before .before .before .before .args .video .now) (c .before .before .before .before .before .before .before .args .y)) _ _ (sym (c .before .before .before .lacks .ensures) ∙ c .before .before .if1 .left) (c .before .record-of .ensures) (c .find .ensures)

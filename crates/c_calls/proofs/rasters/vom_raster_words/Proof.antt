@@ -1,59 +1,43 @@
 use Rattle.c_calls.proofs.Pictured.{place-refused, place-short, place-done}
 use Rattle.stretch.specs.Stretch.{foundSays}
 use Rattle.c_calls.specs.Pictures.{foundTold, wordsCall, placeLeaves}
-use mathlib.Core.Path.{_≡_, refl, sym, _∙_, ap}
+use mathlib.Core.Path.{sym, _∙_, ap}
 use borrow.Author.Needs.{needs}
 use Rattle.c_calls.proofs.rasters.vom_raster_words.Statement.{statement}
 use Rattle.c_calls.proofs.rasters.vom_raster_words.Tie as tie
-use Rattle.c_calls.proofs.rasters.vom_raster_words.Reads as reads
-use Rattle.c_calls.proofs.rasters.vom_raster_words.Lts as lts
-use Rattle.c_calls.proofs.code.refused.Reads as refused-reads
-use Rattle.c_calls.proofs.put.put_pair.Reads as put-pair-reads
-use Rattle.c_calls.proofs.rasters.find_words.Reads as find-words-reads
 
--- src/rasters.rt:44:11
 find-words-requires : tie.Need-find-words-requires
 find-words-requires c κs = search needs
 
--- src/rasters.rt:45:24
 enum-known-why : tie.Need-enum-known-why
 enum-known-why c = search needs
 
--- src/rasters.rt:46:13
 put-pair-requires : tie.Need-put-pair-requires
 put-pair-requires c κs = search needs
 
--- src/rasters.rt:47:13
 refused-requires : tie.Need-refused-requires
 refused-requires c κs = search needs
 
--- src/rasters.rt:49:19
 enum-known-p : tie.Need-enum-known-p
 enum-known-p c = search needs
 
--- src/rasters.rt:51:17
 returns : tie.Need-returns
 unfolding wordsCall placeLeaves
 returns c = place-short (foundTold (c .before .before .before .before .before .before .before .before .before .args .values .now) (c .before .before .before .before .before .before .before .before .before .args .written .now) (c .before .before .before .before .before .before .before .before .before .args .video .now) (c .before .before .before .before .before .before .before .before .before .args .y)) (c .before .before .before .before .before .before .before .before .before .args .place .now) _ (sym (c .before .before .before .before .find-words .ensures) ∙ ap foundSays (c .before .before .p .given .1)) (c .if1 .taken)
 
--- src/rasters.rt:53:13
 put-pair-requires-2 : tie.Need-put-pair-requires-2
 put-pair-requires-2 c κs = search needs
 
--- src/rasters.rt:30:1
 same-length : tie.Need-same-length
 same-length c = search needs
 
--- src/rasters.rt:30:1
 returns-2 : tie.Need-returns-2
 unfolding wordsCall placeLeaves
 returns-2 c = place-refused (foundTold (c .before .before .before .before .before .before .before .before .before .before .before .before .before .args .values .now) (c .before .before .before .before .before .before .before .before .before .before .before .before .before .args .written .now) (c .before .before .before .before .before .before .before .before .before .before .before .before .before .args .video .now) (c .before .before .before .before .before .before .before .before .before .before .before .before .before .args .y)) (c .before .before .before .before .before .before .before .before .before .before .before .before .before .args .place .now) _ _ _ _ (sym (c .before .before .before .before .before .before .before .before .find-words .ensures) ∙ ap foundSays (c .before .before .before .before .before .before .why .given .1)) (c .before .before .before .put-pair .ensures) (c .refused .ensures)
 
--- src/rasters.rt:30:1
 same-length-2 : tie.Need-same-length-2
 same-length-2 c = search needs
 
--- src/rasters.rt:30:1
 returns-3 : tie.Need-returns-3
 unfolding wordsCall placeLeaves
 returns-3 c = place-done (foundTold (c .before .before .before .before .before .before .before .before .before .before .before .before .before .args .values .now) (c .before .before .before .before .before .before .before .before .before .before .before .before .before .args .written .now) (c .before .before .before .before .before .before .before .before .before .before .before .before .before .args .video .now) (c .before .before .before .before .before .before .before .before .before .before .before .before .before .args .y)) (c .before .before .before .before .before .before .before .before .before .before .before .before .before .args .place .now) _ _ (sym (c .before .before .before .before .before .before .before .before .find-words .ensures) ∙ ap foundSays (c .before .before .before .before .before .before .p .given .1)) (c .before .before .before .before .if1 .left) (c .before .before .put-pair2 .ensures)

@@ -9,8 +9,6 @@ use Rattle.buffers.proofs.Paints.{Paints, paint-none, paint-more, paints-painte
 use Rattle.c_calls.specs.Record.{valueIn, byteIn}
 use Rattle.c_calls.proofs.record.put_record.Statement.{statement}
 use Rattle.c_calls.proofs.record.put_record.Tie as tie
-use Rattle.c_calls.proofs.record.put_record.Reads as reads
-use Rattle.c_calls.proofs.record.put_record.Lts as lts
 
 abbrev Inv-loop : tie.InvT-loop
 Inv-loop values₀ written₀ g k₀ values written k =
@@ -19,61 +17,47 @@ Inv-loop values₀ written₀ g k₀ values written k =
 abbrev μ-loop : tie.MeasureT-loop
 μ-loop values₀ written₀ g k₀ values written k = 64 - k
 
--- src/record.rt:42:5
 loop-holds : tie.Need-loop-holds Inv-loop μ-loop
 loop-holds c = (search needs, paint-none 0 _, paint-none 0 _)
 
--- src/record.rt:43:21
 mul-values : tie.Need-mul-values Inv-loop μ-loop
 mul-values c = search needs
 
--- src/record.rt:43:21
 element-copy-out-values : tie.Need-element-copy-out-values Inv-loop μ-loop
 element-copy-out-values c = search needs
 
--- src/record.rt:43:9
 mul-values-2 : tie.Need-mul-values-2 Inv-loop μ-loop
 mul-values-2 c = search needs
 
--- src/record.rt:43:9
 slice-write-values : tie.Need-slice-write-values Inv-loop μ-loop
 slice-write-values c = search needs
 
--- src/record.rt:44:22
 element-copy-out-written : tie.Need-element-copy-out-written Inv-loop μ-loop
 element-copy-out-written c = search needs
 
--- src/record.rt:44:22
 cast-written : tie.Need-cast-written Inv-loop μ-loop
 cast-written c = search needs
 
--- src/record.rt:44:9
 slice-write-written : tie.Need-slice-write-written Inv-loop μ-loop
 slice-write-written c = search needs
 
--- src/record.rt:45:9
 add-k : tie.Need-add-k Inv-loop μ-loop
 add-k c = search needs
 
--- src/record.rt:42:5
 loop-less : tie.Need-loop-less Inv-loop μ-loop
 loop-less c = search needs
 
--- src/record.rt:42:5
 loop-again : tie.Need-loop-again Inv-loop μ-loop
 loop-again c =
     let l = c .before .before .before .loop in
     (search needs, paint-more _ (search needs) (search needs) refl (l .inv .1), paint-more _ (search needs) (search needs) (flag-byte (getD (c .before .before .before .before .args .t1 .written) (l .k) false)) (l .inv .2))
 
--- src/record.rt:34:1
 same-length : tie.Need-same-length Inv-loop μ-loop
 same-length c = c .before .loop .inv .1 .len
 
--- src/record.rt:34:1
 same-length-2 : tie.Need-same-length-2 Inv-loop μ-loop
 same-length-2 c = c .before .loop .inv .2 .len
 
--- src/record.rt:34:1
 returns : tie.Need-returns Inv-loop μ-loop
 returns c =
     let s = c .before .before in

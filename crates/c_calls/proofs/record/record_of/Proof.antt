@@ -8,8 +8,6 @@ use Rattle.buffers.proofs.Paints.{Paints, paint-none, paint-more}
 use Rattle.c_calls.proofs.Records.{valueAt, flagAt, record-made}
 use Rattle.c_calls.proofs.record.record_of.Statement.{statement}
 use Rattle.c_calls.proofs.record.record_of.Tie as tie
-use Rattle.c_calls.proofs.record.record_of.Reads as reads
-use Rattle.c_calls.proofs.record.record_of.Lts as lts
 
 abbrev Inv-loop : tie.InvT-loop
 Inv-loop values written numbers₀ flags₀ k₀ numbers flags k =
@@ -19,49 +17,38 @@ Inv-loop values written numbers₀ flags₀ k₀ numbers flags k =
 abbrev μ-loop : tie.MeasureT-loop
 μ-loop values written numbers₀ flags₀ k₀ numbers flags k = 64 - k
 
--- src/record.rt:22:5
 loop-holds : tie.Need-loop-holds Inv-loop μ-loop
 loop-holds c = (search needs, refl, refl, paint-none 0 _, paint-none 0 _)
 
--- src/record.rt:23:22
 mul-numbers : tie.Need-mul-numbers Inv-loop μ-loop
 mul-numbers c = search needs
 
--- src/record.rt:23:22
 shared-slice-read-numbers : tie.Need-shared-slice-read-numbers Inv-loop μ-loop
 shared-slice-read-numbers c = search needs
 
--- src/record.rt:23:9
 mul-numbers-2 : tie.Need-mul-numbers-2 Inv-loop μ-loop
 mul-numbers-2 c = search needs
 
--- src/record.rt:23:9
 array-write-numbers : tie.Need-array-write-numbers Inv-loop μ-loop
 array-write-numbers c = search needs
 
--- src/record.rt:24:20
 shared-slice-read-flags : tie.Need-shared-slice-read-flags Inv-loop μ-loop
 shared-slice-read-flags c = search needs
 
--- src/record.rt:24:9
 array-write-flags : tie.Need-array-write-flags Inv-loop μ-loop
 array-write-flags c = search needs
 
--- src/record.rt:25:9
 add-k : tie.Need-add-k Inv-loop μ-loop
 add-k c = search needs
 
--- src/record.rt:22:5
 loop-less : tie.Need-loop-less Inv-loop μ-loop
 loop-less c = search needs
 
--- src/record.rt:22:5
 loop-again : tie.Need-loop-again Inv-loop μ-loop
 loop-again c =
     let l = c .before .before .before .loop in
     (search needs, l .inv .1, l .inv .2, paint-more _ (search needs) (search needs) refl (l .inv .3), paint-more _ (search needs) (search needs) refl (l .inv .4))
 
--- src/record.rt:15:1
 returns : tie.Need-returns Inv-loop μ-loop
 returns c =
     let s = c .before .before in

@@ -2,14 +2,10 @@ use Rattle.c_calls.proofs.Records.{flag-byte}
 use borrow.Author.Needs.{needs}
 use Rattle.c_calls.proofs.settings.flag.Statement.{statement}
 use Rattle.c_calls.proofs.settings.flag.Tie as tie
-use Rattle.c_calls.proofs.settings.flag.Reads as reads
-use Rattle.c_calls.proofs.settings.flag.Lts as lts
 
--- src/settings.rt:35:5
 cast-result : tie.Need-cast-result
 cast-result c = search needs
 
--- src/settings.rt:32:1
 returns : tie.Need-returns
 returns c = flag-byte (c .args .on)
 

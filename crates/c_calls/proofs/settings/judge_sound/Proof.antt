@@ -1,34 +1,24 @@
 use Rattle.registers.specs.Sound.{soundTold}
 use Rattle.c_calls.specs.Settings.{checkSoundCall}
-use Rattle.c_calls.proofs.Records.{no-record, a-record, long-enough, told-short, told-by}
-use mathlib.Core.Path.{_≡_, refl, sym, _∙_, ap}
+use Rattle.c_calls.proofs.Records.{long-enough, told-short, told-by}
+use mathlib.Core.Path.{sym, _∙_}
 use borrow.Author.Needs.{needs}
 use Rattle.c_calls.proofs.settings.judge_sound.Statement.{statement}
 use Rattle.c_calls.proofs.settings.judge_sound.Tie as tie
-use Rattle.c_calls.proofs.settings.judge_sound.Reads as reads
-use Rattle.c_calls.proofs.settings.judge_sound.Lts as lts
-use Rattle.c_calls.proofs.record.lacks.Reads as lacks-reads
-use Rattle.c_calls.proofs.record.record_of.Reads as record-of-reads
-use Rattle.registers.proofs.record.Registers.check_sound.Reads as check-sound-reads
 
--- src/settings.rt:68:8
 lacks-requires : tie.Need-lacks-requires
 lacks-requires c κs = search needs
 
--- src/settings.rt:69:9
 returns : tie.Need-returns
 unfolding checkSoundCall
 returns c = told-short _ _ soundTold (sym (c .before .lacks .ensures) ∙ c .if1 .taken)
 
--- src/settings.rt:71:5
 record-of-requires : tie.Need-record-of-requires
 record-of-requires c κs = long-enough (c .before .before .before .before .args .values .now) (c .before .before .before .before .args .written .now) (sym (c .before .lacks .ensures) ∙ c .if1 .left)
 
--- src/settings.rt:71:5
 check-sound-requires : tie.Need-check-sound-requires
 check-sound-requires c κs = search needs
 
--- src/settings.rt:65:1
 returns-2 : tie.Need-returns-2
 unfolding checkSoundCall
 returns-2 c = told-by _ _ soundTold _ _ (sym (c .before .before .before .lacks .ensures) ∙ c .before .before .if1 .left) (c .before .record-of .ensures) (c .check-sound .ensures)

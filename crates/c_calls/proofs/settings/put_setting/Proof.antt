@@ -5,133 +5,94 @@ use Rattle.c_calls.specs.Settings.{numbersOf}
 use borrow.Author.Needs.{needs}
 use Rattle.c_calls.proofs.settings.put_setting.Statement.{statement}
 use Rattle.c_calls.proofs.settings.put_setting.Tie as tie
-use Rattle.c_calls.proofs.settings.put_setting.Reads as reads
-use Rattle.c_calls.proofs.settings.put_setting.Lts as lts
-use Rattle.c_calls.proofs.put.put_words.Reads as put-words-reads
-use Rattle.c_calls.proofs.settings.flag.Reads as flag-reads
-use Rattle.c_calls.proofs.settings.wide.Reads as wide-reads
-use Rattle.registers.proofs.setting.Setting.border_on.Reads as border-on-reads
-use Rattle.registers.proofs.setting.Setting.cursor_words.Reads as cursor-words-reads
-use Rattle.registers.proofs.setting.Setting.display_on.Reads as display-on-reads
-use Rattle.registers.proofs.setting.Setting.video_words.Reads as video-words-reads
 
--- src/settings.rt:43:9
 wide-requires : tie.Need-wide-requires
 wide-requires c κs = search needs
 
--- src/settings.rt:44:9
 wide-requires-2 : tie.Need-wide-requires-2
 wide-requires-2 c κs = search needs
 
--- src/settings.rt:45:9
 wide-requires-3 : tie.Need-wide-requires-3
 wide-requires-3 c κs = search needs
 
--- src/settings.rt:46:9
 wide-requires-4 : tie.Need-wide-requires-4
 wide-requires-4 c κs = search needs
 
--- src/settings.rt:47:9
 wide-requires-5 : tie.Need-wide-requires-5
 wide-requires-5 c κs = search needs
 
--- src/settings.rt:48:9
 wide-requires-6 : tie.Need-wide-requires-6
 wide-requires-6 c κs = search needs
 
--- src/settings.rt:49:9
 wide-requires-7 : tie.Need-wide-requires-7
 wide-requires-7 c κs = search needs
 
--- src/settings.rt:50:9
 wide-requires-8 : tie.Need-wide-requires-8
 wide-requires-8 c κs = search needs
 
--- src/settings.rt:51:9
 wide-requires-9 : tie.Need-wide-requires-9
 wide-requires-9 c κs = search needs
 
--- src/settings.rt:52:9
 wide-requires-10 : tie.Need-wide-requires-10
 wide-requires-10 c κs = search needs
 
--- src/settings.rt:53:9
 wide-requires-11 : tie.Need-wide-requires-11
 wide-requires-11 c κs = search needs
 
--- src/settings.rt:54:9
 wide-requires-12 : tie.Need-wide-requires-12
 wide-requires-12 c κs = search needs
 
--- src/settings.rt:55:9
 wide-requires-13 : tie.Need-wide-requires-13
 wide-requires-13 c κs = search needs
 
--- src/settings.rt:56:9
 wide-requires-14 : tie.Need-wide-requires-14
 wide-requires-14 c κs = search needs
 
--- src/settings.rt:57:9
 wide-requires-15 : tie.Need-wide-requires-15
 wide-requires-15 c κs = search needs
 
--- src/settings.rt:58:14
 cast-wide : tie.Need-cast-wide
 cast-wide c = search needs
 
--- src/settings.rt:58:9
 wide-requires-16 : tie.Need-wide-requires-16
 wide-requires-16 c κs = search needs
 
--- src/settings.rt:59:14
 display-on-requires : tie.Need-display-on-requires
 display-on-requires c κs = search needs
 
--- src/settings.rt:59:9
 flag-requires : tie.Need-flag-requires
 flag-requires c κs = search needs
 
--- src/settings.rt:60:14
 border-on-requires : tie.Need-border-on-requires
 border-on-requires c κs = search needs
 
--- src/settings.rt:60:9
 flag-requires-2 : tie.Need-flag-requires-2
 flag-requires-2 c κs = search needs
 
--- src/settings.rt:61:9
 flag-requires-3 : tie.Need-flag-requires-3
 flag-requires-3 c κs = search needs
 
--- src/settings.rt:62:9
 video-words-requires : tie.Need-video-words-requires
 video-words-requires c κs = search needs
 
--- src/settings.rt:62:9
 cast-t27 : tie.Need-cast-t27
 cast-t27 c = let s = c .before .before .before .before .before .before .before .before .before .before .before .before .before .before .before .before .before .before .before .before .before .before .before .before in omega (arith, c .video-words .ensures, video-most (s .args .s) (s .pre .1))
 
--- src/settings.rt:63:9
 cursor-words-requires : tie.Need-cursor-words-requires
 cursor-words-requires c κs = search needs
 
--- src/settings.rt:63:9
 cast-t29 : tie.Need-cast-t29
 cast-t29 c = let s = c .before .before .before .before .before .before .before .before .before .before .before .before .before .before .before .before .before .before .before .before .before .before .before .before .before in omega (arith, c .cursor-words .ensures, cursor-most (s .args .s) (s .pre .1))
 
--- src/settings.rt:65:20
 slice-aggregate-put-words : tie.Need-slice-aggregate-put-words
 slice-aggregate-put-words c = search needs
 
--- src/settings.rt:65:5
 put-words-requires : tie.Need-put-words-requires
 put-words-requires c κs = c .before .before .before .before .before .before .before .before .before .before .before .before .before .before .before .before .before .before .before .before .before .before .before .before .before .before .before .pre .0
 
--- src/settings.rt:38:1
 same-length : tie.Need-same-length
 same-length c = search needs
 
--- src/settings.rt:38:1
 returns : tie.Need-returns
 unfolding numbersOf
 returns c =

@@ -1,22 +1,15 @@
 use Rattle.c_calls.specs.Code.{codeOf}
-use mathlib.Core.Path.{_≡_, refl, sym, _∙_, ap}
+use mathlib.Core.Path.{_∙_, ap}
 use borrow.Author.Needs.{needs}
 use Rattle.c_calls.proofs.settings.vom_check_sound.Statement.{statement}
 use Rattle.c_calls.proofs.settings.vom_check_sound.Tie as tie
-use Rattle.c_calls.proofs.settings.vom_check_sound.Reads as reads
-use Rattle.c_calls.proofs.settings.vom_check_sound.Lts as lts
-use Rattle.c_calls.proofs.code.answered.Reads as answered-reads
-use Rattle.c_calls.proofs.settings.judge_sound.Reads as judge-sound-reads
 
--- src/settings.rt:100:14
 judge-sound-requires : tie.Need-judge-sound-requires
 judge-sound-requires c κs = search needs
 
--- src/settings.rt:100:5
 answered-requires : tie.Need-answered-requires
 answered-requires c κs = search needs
 
--- src/settings.rt:96:1
 returns : tie.Need-returns
 returns c = c .answered .ensures ∙ ap codeOf (c .before .judge-sound .ensures)
 

@@ -8,9 +8,6 @@ use Rattle.runs.specs.Text.{linesFor, firstLines}
 use Rattle.c_calls.proofs.Text.{few-lines, last-line, more-lines, length-next, all-lines}
 use Rattle.c_calls.proofs.texts.measure.Statement.{statement}
 use Rattle.c_calls.proofs.texts.measure.Tie as tie
-use Rattle.c_calls.proofs.texts.measure.Reads as reads
-use Rattle.c_calls.proofs.texts.measure.Lts as lts
-use Rattle.c_calls.proofs.lines.measure_line.Reads as measure-line-reads
 
 abbrev Inv-loop : tie.InvT-loop
 Inv-loop file total₀ k₀ total k =
@@ -19,16 +16,13 @@ Inv-loop file total₀ k₀ total k =
 abbrev μ-loop : tie.MeasureT-loop
 μ-loop file total₀ k₀ total k = 1025 - k
 
--- src/texts.rt:22:5
 loop-holds : tie.Need-loop-holds Inv-loop μ-loop
 unfolding firstLines
 loop-holds c = (omega arith, omega arith, refl, omega arith)
 
--- src/texts.rt:23:13
 measure-line-requires : tie.Need-measure-line-requires Inv-loop μ-loop
 measure-line-requires c κs = search needs
 
--- src/texts.rt:25:13
 returns : tie.Need-returns Inv-loop μ-loop
 returns c =
     let l = c .before .before .before .loop in
@@ -36,28 +30,26 @@ returns c =
     let file = c .before .before .before .before .before .args .file .now in
     l .inv .2 ∙ ap length (all-lines file (l .k) (last-line file (l .k) (l .inv .1) (sym (m .ensures .0) ∙ c .if1 .taken)))
 
--- src/texts.rt:27:9
 add-total : tie.Need-add-total Inv-loop μ-loop
 add-total c = omega (arith, c .before .measure-line .ensures .1, c .before .before .before .loop .inv .3)
 
--- src/texts.rt:28:9
 add-k : tie.Need-add-k Inv-loop μ-loop
 add-k c = search needs
 
--- src/texts.rt:22:5
 loop-less : tie.Need-loop-less Inv-loop μ-loop
 loop-less c = search needs
 
--- src/texts.rt:22:5
 loop-again : tie.Need-loop-again Inv-loop μ-loop
 loop-again c =
     let l = c .before .before .before .loop in
     let m = c .before .measure-line in
-    let file = c .before .before .before .before .before .args .file .now in
-    (omega arith, more-lines file (l .k) (λ z. c .if1 .left (m .ensures .0 ∙ z)),
-     omega (arith, length-next file (l .k), m .ensures .0, l .inv .2), omega (arith, m .ensures .1, l .inv .3))
+    let file = c .before .before .before .before .before .args .file .now in (
+      omega arith,
+      more-lines file (l .k) (λ z. c .if1 .left (m .ensures .0 ∙ z)),
+      omega (arith, length-next file (l .k), m .ensures .0, l .inv .2),
+      omega (arith, m .ensures .1, l .inv .3),
+    )
 
--- src/texts.rt:17:1
 returns-2 : tie.Need-returns-2 Inv-loop μ-loop
 returns-2 c =
     let l = c .before .loop in

@@ -73,9 +73,12 @@ mul-pairs c = search needs
 pairs-requires : tie.Need-pairs-requires
 pairs-requires c κs = let s = c .before .before .before .before .before .before .before .before .before .before .before .before .before .before in
     let rows = pointed-rows (c .before .before .before .before .before .before .before .before .before .before .before .before .before .before .args .s) (c .before .before .before .before .before .before .before .before .before .before .before .before .before .before .args .y .0) (sym (c .before .before .before .before .before .before .before .before .before .before .before .pointed .ensures) ∙ not-false (c .before .before .before .before .before .before .before .before .before .before .before .pointed .result) (c .before .before .before .before .before .before .before .before .before .before .if1 .left)) in
-    let high = c .before .before .before .before .least .ensures ∙ ap (λ (n : ℕ). min n 32) (c .before .before .before .before .before .past2 .ensures) in
-    (omega arith, omega (arith, high), omega (arith, high, s .pre .room, s .pre .accepted .be-n, c .before .before .before .before .before .before .before .before .before .wide .ensures, c .before .before .before .before .before .before .wide3 .ensures, c .before .before .before .if2 .left, c .before .before .before .before .before .before .before .past .ensures),
-    pairs-lie (s .args .y .0) (s .pre) (rows .0) (rows .1) (rows .2))
+    let high = c .before .before .before .before .least .ensures ∙ ap (λ (n : ℕ). min n 32) (c .before .before .before .before .before .past2 .ensures) in (
+      omega arith,
+      omega (arith, high),
+      omega (arith, high, s .pre .room, s .pre .accepted .be-n, c .before .before .before .before .before .before .before .before .before .wide .ensures, c .before .before .before .before .before .before .wide3 .ensures, c .before .before .before .if2 .left, c .before .before .before .before .before .before .before .past .ensures),
+      pairs-lie (s .args .y .0) (s .pre) (rows .0) (rows .1) (rows .2),
+    )
 
 -- src/cursor.rt:46:1
 same-length : tie.Need-same-length

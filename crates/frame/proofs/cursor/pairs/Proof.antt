@@ -58,12 +58,14 @@ loop-less c = search needs
 -- src/cursor.rt:30:5
 loop-again : tie.Need-loop-again Inv-loop μ-loop
 loop-again c = let s = c .before .before .before .before .before .before in
-    let l = c .before .before .before .loop in
-    (omega arith, omega arith,
-    ⊎-elim
-    (λ w. rw (w .2) (pair-stored _ _ _ _ _ _ _ _ _ (c .before .pair .ensures) (l .inv .0) (w .0 .taken) (omega arith) (l .inv .2)))
-    (λ w. rw (w .1) (pair-clear _ _ _ _ _ _ _ _ _ (c .before .pair .ensures) (l .inv .0) (w .0 .left) (l .inv .2)))
-    (c .if1 .came))
+    let l = c .before .before .before .loop in (
+      omega arith,
+      omega arith,
+      ⊎-elim
+          (λ w. rw (w .2) (pair-stored _ _ _ _ _ _ _ _ _ (c .before .pair .ensures) (l .inv .0) (w .0 .taken) (omega arith) (l .inv .2)))
+          (λ w. rw (w .1) (pair-clear _ _ _ _ _ _ _ _ _ (c .before .pair .ensures) (l .inv .0) (w .0 .left) (l .inv .2)))
+          (c .if1 .came),
+    )
 
 -- src/cursor.rt:25:1
 same-length : tie.Need-same-length Inv-loop μ-loop

@@ -68,9 +68,12 @@ loop-less c = search needs
 -- src/pixels.rt:18:5
 loop-again : tie.Need-loop-again Inv-loop μ-loop
 loop-again c = let s = c .before .before .before in
-    let l = c .before .before .loop in
-    (omega arith, omega arith, ap (λ (n : ℕ). n / 2 ^ (s .args .d)) (l .inv .2) ∙ next-from _ _ _ _ (l .inv .0),
-    paint-more _ (omega arith) (omega arith) (pixel-ink _ _ _ _ _ _ (s .pre .1) (l .inv .2)) (l .inv .3))
+    let l = c .before .before .loop in (
+      omega arith,
+      omega arith,
+      ap (λ (n : ℕ). n / 2 ^ (s .args .d)) (l .inv .2) ∙ next-from _ _ _ _ (l .inv .0),
+      paint-more _ (omega arith) (omega arith) (pixel-ink _ _ _ _ _ _ (s .pre .1) (l .inv .2)) (l .inv .3),
+    )
 
 -- src/pixels.rt:10:1
 same-length : tie.Need-same-length Inv-loop μ-loop

@@ -61,11 +61,14 @@ loop-less c = search needs
 -- src/pixels.rt:34:5
 loop-again : tie.Need-loop-again Inv-loop μ-loop
 loop-again c = let s = c .before .before .before .before .before .before .before in
-    let l = c .before .before .before .before .before .loop in
-    (omega arith, omega (arith, l .inv .1), omega (arith, l .inv .2),
-    chunk-turn _ _ _ _ _ _ _ _ (l .inv .1) (l .inv .2) _ _ _
-    (omega (arith, chunk-room (l .j) (s .args .chunks) (s .args .count) (s .args .d) (c .before .before .before .before .loop-test .taken), s .pre .0, l .inv .1))
-    (l .inv .3) (c .before .before .some .ensures))
+    let l = c .before .before .before .before .before .loop in (
+      omega arith,
+      omega (arith, l .inv .1),
+      omega (arith, l .inv .2),
+      chunk-turn _ _ _ _ _ _ _ _ (l .inv .1) (l .inv .2) _ _ _
+          (omega (arith, chunk-room (l .j) (s .args .chunks) (s .args .count) (s .args .d) (c .before .before .before .before .loop-test .taken), s .pre .0, l .inv .1))
+          (l .inv .3) (c .before .before .some .ensures),
+    )
 
 -- src/pixels.rt:26:1
 same-length : tie.Need-same-length Inv-loop μ-loop

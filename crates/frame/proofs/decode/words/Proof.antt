@@ -57,11 +57,13 @@ loop-less c = search needs
 -- src/pixels.rt:49:5
 loop-again : tie.Need-loop-again Inv-loop μ-loop
 loop-again c = let s = c .before .before .before .before .before .before .before .before .before in
-    let l = c .before .before .before .before .before .before .loop in
-    (omega arith, omega (arith, l .inv .1),
-    word-turn _ _ _ _ _ _ _ (l .inv .1) (s .pre .3) _ _ _
-    (omega (arith, chunk-room (l .q) (length (s .args .video .now)) (s .args .chunks * s .args .count) 0 (c .before .before .before .before .before .loop-test .taken), s .pre .0, l .inv .1))
-    (l .inv .2) (c .before .before .word .ensures))
+    let l = c .before .before .before .before .before .before .loop in (
+      omega arith,
+      omega (arith, l .inv .1),
+      word-turn _ _ _ _ _ _ _ (l .inv .1) (s .pre .3) _ _ _
+          (omega (arith, chunk-room (l .q) (length (s .args .video .now)) (s .args .chunks * s .args .count) 0 (c .before .before .before .before .before .loop-test .taken), s .pre .0, l .inv .1))
+          (l .inv .2) (c .before .before .word .ensures),
+    )
 
 -- src/pixels.rt:43:1
 same-length : tie.Need-same-length Inv-loop μ-loop

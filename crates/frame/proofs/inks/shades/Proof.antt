@@ -61,9 +61,10 @@ loop-less c = omega (arith, c .before .loop-test .taken, count-is (c .before .be
 -- src/inks.rt:23:5
 loop-again : tie.Need-loop-again Inv-loop μ-loop
 loop-again c = let s = c .before .before .before in
-    let l = c .before .before .loop in
-    (omega (arith, c .before .loop-test .taken, count-is (c .before .before .before .args .depth) (c .before .before .before .pre), count-most (c .before .before .before .args .depth) (c .before .before .before .pre)),
-    paint-more _ (omega arith) (omega (arith, c .before .loop-test .taken, count-is (c .before .before .before .args .depth) (c .before .before .before .pre), count-most (c .before .before .before .args .depth) (c .before .before .before .pre), length-replicate {A = ℕ} 256 0)) (shade-is _ _ _ _ (c .colour .ensures)) (l .inv .1))
+    let l = c .before .before .loop in (
+      omega (arith, c .before .loop-test .taken, count-is (c .before .before .before .args .depth) (c .before .before .before .pre), count-most (c .before .before .before .args .depth) (c .before .before .before .pre)),
+      paint-more _ (omega arith) (omega (arith, c .before .loop-test .taken, count-is (c .before .before .before .args .depth) (c .before .before .before .pre), count-most (c .before .before .before .args .depth) (c .before .before .before .pre), length-replicate {A = ℕ} 256 0)) (shade-is _ _ _ _ (c .colour .ensures)) (l .inv .1),
+    )
 
 -- src/inks.rt:16:1
 returns : tie.Need-returns Inv-loop μ-loop

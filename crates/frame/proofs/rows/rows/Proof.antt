@@ -51,11 +51,13 @@ loop-less c = search needs
 -- src/rows.rt:28:5
 loop-again : tie.Need-loop-again Inv-loop μ-loop
 loop-again c = let s = c .before .before .before .before .before .before .before .before .before .before .before in
-    let l = c .before .before .before .before .before .before .loop in
-    (omega (arith, c .before .before .before .before .if1 .taken), omega (arith, c .before .before .before .before .before .before .before .wide .ensures, l .inv .1),
-    rw (c .before .before .before .before .before .before .before .wide .ensures)
-    (row-turn (s .args .s) (s .pre .accepted) (l .y) _ _ _ _ _ (l .inv .1) _ _ _ (omega (arith, l .inv .1, s .pre .room, row-room (s .args .s) (s .pre .accepted) (l .y) (c .before .before .before .before .if1 .taken)))
-    (l .inv .2) (c .before .before .row .ensures)))
+    let l = c .before .before .before .before .before .before .loop in (
+      omega (arith, c .before .before .before .before .if1 .taken),
+      omega (arith, c .before .before .before .before .before .before .before .wide .ensures, l .inv .1),
+      rw (c .before .before .before .before .before .before .before .wide .ensures)
+          (row-turn (s .args .s) (s .pre .accepted) (l .y) _ _ _ _ _ (l .inv .1) _ _ _ (omega (arith, l .inv .1, s .pre .room, row-room (s .args .s) (s .pre .accepted) (l .y) (c .before .before .before .before .if1 .taken)))
+          (l .inv .2) (c .before .before .row .ensures)),
+    )
 
 -- src/rows.rt:21:1
 same-length : tie.Need-same-length Inv-loop μ-loop
