@@ -39,6 +39,12 @@ use Rattle.c_calls.proofs.sounds.vom_sound_pair.Kinds as vom-sound-pair
 use Rattle.c_calls.proofs.sounds.vom_sound_pair.Reads as vom-sound-pair-reads
 use Rattle.c_calls.proofs.texts.vom_text.Kinds as vom-text-kinds
 use Rattle.c_calls.proofs.texts.vom_text.Reads as vom-text-reads
+use Rattle.registers.proofs.Told.{same-answer}
+use Rattle.c_calls.proofs.settings.judge_sound.Kinds as judge-sound-kinds
+use Rattle.c_calls.proofs.settings.judge_sound.Reads as judge-sound-reads
+
+pub one-judge-sound : OneAnswer 2 judge-sound-kinds.ps judge-sound-kinds.r judge-sound-reads.Post
+one-judge-sound κs a x y s t p q = same-answer x y (p ∙ sym q)
 
 pub one-vom-read : OneState 2 vom-read-kinds.ps vom-read-kinds.r (λ κs s. now (s .1 .0)) vom-read-reads.Post
 one-vom-read κs a x y s t p q = (p .0 ∙ sym (q .0), p .1 ∙ sym (q .1))
