@@ -4,7 +4,10 @@ pub mod Cells
 pub mod Runs
 pub mod Lists
 pub mod Picture
+pub mod Either
 pub mod Tables
 pub mod Refusals
 pub mod Demands
+pub mod Printed
 pub mod Cases
+pub mod Coincide

@@ -2,9 +2,11 @@
 use Prim.Native.Nat.{ℕ, _*_, _%_}
 use mathlib.Core.Bool.{not}
 use mathlib.Core.List.{List, [], _∷_, _++_}
+use lib.ListN.{length}
 use lib.Dec.{ltb, eqb}
 use Rattle.registers.specs.Table.{Row, row}
 use Rattle.registers.specs.Record.{slotOf, reserved}
+use Rattle.registers.specs.Load.{loadTable}
 use Rattle.registers.specs.Setting.{settingOf}
 use Rattle.registers.specs.Check.{settingTable}
 use Rattle.registers.specs.Sound.{soundTable}
@@ -12,6 +14,7 @@ use Rattle.registers.specs.declared.record.Registers.{Registers}
 use Rattle.frame.specs.Frame.{wordsWrong, frameTable, rasterTable}
 use Rattle.stretch.specs.Stretch.{stretchTable}
 use Rattle.plates.specs.Plate.{mostBytes, right, rOf, plateLength}
+use Rattle.runs.specs.Sheet.{mostInput, registerWords, videoList, cursorList, registersOf}
 
 -- Loading one word alone.
 abbrev pub wordRows : ℕ → List Row
@@ -47,3 +50,10 @@ copyRows file places = row 14 (not (right file)) 0 ∷ row 13 (ltb places (rOf f
 abbrev pub writeRows : List ℕ → List ℕ → List ℕ → List ℕ → ℕ → List Row
 writeRows rs vs cs ss places =
     row 15 (ltb mostBytes (plateLength rs vs cs ss)) 0 ∷ row 13 (ltb places (plateLength rs vs cs ss)) 0 ∷ []
+
+-- A plate that is printed: 15, 14, 1 to 9, 11.
+abbrev pub sheetRows : List ℕ → List Row
+sheetRows file =
+    row 15 (ltb mostInput (length file)) 0
+    ∷ row 14 (not (right file)) 0
+    ∷ (loadTable (registerWords file) ++ marksRows (registersOf file) (videoList file) (cursorList file))

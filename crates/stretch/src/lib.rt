@@ -1,5 +1,5 @@
 // The words of one displayed raster: a part of the caller's own list.
-mod found;
+pub mod found;
 
 use crate::found::Found;
 use crate::found::find;

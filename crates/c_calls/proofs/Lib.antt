@@ -1,0 +1,8 @@
+pub mod Records
+pub mod Answers
+pub mod Loading
+pub mod Pictured
+pub mod Sounded
+pub mod Written
+pub mod Text
+pub mod Unique

@@ -1,0 +1,13 @@
+// The calls for C and Rust, each thin over a proved call of the crates below. A record crosses as two slices, an answer as one number.
+mod code;
+pub mod files;
+pub mod levels;
+mod lines;
+pub mod loads;
+pub mod pictures;
+mod put;
+pub mod rasters;
+mod record;
+pub mod settings;
+pub mod sounds;
+pub mod texts;

@@ -1,0 +1,12 @@
+-- Answers coincide: for every public call of every library, the theorem of its own contract, in one list.
+-- Of `raster_words` it says that any two answers read the same words.
+pub use Rattle.registers.proofs.Unique.{one-number, one-detail, one-pixels, one-of-value, one-is-reserved, one-new, one-store, one-palette, one-border, one-cursor-colour, one-display-on, one-border-on, one-video-words, one-cursor-words, one-stereo, one-sound-frequency, one-load-word, one-load, one-check, one-check-sound}
+pub use Rattle.colours.proofs.Unique.{one-colour, one-grey, one-pin}
+pub use Rattle.frame.proofs.Unique.{one-words-wrong, one-frame, one-raster}
+pub use Rattle.marks.proofs.Unique.{one-marks}
+pub use Rattle.stretch.proofs.Unique.{one-find, one-raster-words, one-raster-words-answer}
+pub use Rattle.sound.proofs.Unique.{one-pair, one-play}
+pub use Rattle.plates.proofs.Unique.{one-read, one-copy-out, one-write}
+pub use Rattle.pictures.proofs.Unique.{one-guns}
+pub use Rattle.runs.proofs.Unique.{one-line, one-strip}
+pub use Rattle.c_calls.proofs.Unique.{one-judge-sound, one-vom-read, one-vom-copy, one-vom-write, one-vom-colour, one-vom-grey, one-vom-pin, one-vom-load, one-vom-load-word, one-vom-frame, one-vom-raster, one-vom-raster-words, one-vom-marks, one-vom-check, one-vom-check-sound, one-vom-sound, one-vom-sound-pair, one-vom-text}
