@@ -1,19 +1,5 @@
-// What main.c measures: ours by the calls of the library, and the baselines.
-// A slice is a pointer and its length in elements.
-#include <stddef.h>
-#include <stdint.h>
-
-// The proved library; 0 is success.
-#define RECORD const uint32_t *values, size_t, const uint8_t *written, size_t
-uint64_t vom_load(uint32_t *values, size_t, uint8_t *written, size_t, const uint32_t *words, size_t);
-uint64_t vom_check(RECORD, uint32_t *setting, size_t);
-uint64_t vom_frame(RECORD, const uint32_t *video, size_t, const uint32_t *cursor, size_t, uint16_t *cells, size_t);
-uint64_t vom_raster(RECORD, const uint32_t *video, size_t, const uint32_t *cursor, size_t, uint16_t y, uint16_t *cells, size_t);
-uint64_t vom_marks(RECORD, const uint32_t *video, size_t, const uint32_t *cursor, size_t, uint8_t threshold, uint64_t *count, size_t);
-uint64_t vom_sound(RECORD, const uint32_t *words, size_t, uint32_t counter, int16_t *out, size_t, uint32_t *after, size_t);
-uint64_t vom_copy(const uint8_t *file, size_t, uint32_t *words, size_t);
-uint64_t vom_write(const uint32_t *registers, size_t, const uint32_t *video, size_t, const uint32_t *cursor, size_t,
-                   const uint32_t *sound, size_t, uint8_t *out, size_t, uint64_t *length, size_t);
+// What main.c measures: ours by the library's own header, and the baselines.
+#include "../include/vombelishi.h"
 
 // A picture as the baselines get it: judged, with its numbers in the order of vom_check's answer, and its 13-bit colours.
 // Ours starts from the record each time and judges it, which the baselines are spared.

@@ -22,6 +22,7 @@ static int16_t sound_out[SOUNDS * 8], sound_kept[SOUNDS * 8];
 static uint8_t stereo[8];
 static uint32_t after;
 static uint64_t marks, length;
+static uint8_t text[16 << 20];
 static struct picture pic;
 
 #define GIVEN values, 64, written, 64
@@ -208,7 +209,9 @@ static void same_put(work *other) {
     if (memcmp(file_out, file_kept, 4 * PLATE_WORDS)) die("the written plates differ");
 }
 
-// ---- the printer, as a process
+// ---- the printer's text: by the call, and by the program as a process
+
+static void ours_text(void) { if (vom_text(file, 65536, text, sizeof text, &length, 1)) die("the text was refused"); }
 
 static void print_plate(const char *printer, const char *plate) {
     // the largest frame, and a cursor that parts every raster into many runs
@@ -218,6 +221,7 @@ static void print_plate(const char *printer, const char *plate) {
     size_t rest = 65536 / 4 - 4 - register_count - pic.video_words - pic.cursor_words;
     if (vom_write(registers, register_count, noise, pic.video_words, stripes, pic.cursor_words, noise, rest, file_out, PLATE,
                   &length, 1) || length != 65536) die("the printer's plate was refused");
+    memcpy(file, file_out, length);
     int out = open(plate, O_WRONLY | O_CREAT | O_TRUNC, 0644);
     if (out < 0 || write(out, file_out, length) != (ssize_t)length || close(out)) die("the printer's plate was not written");
     posix_spawn_file_actions_t actions;
@@ -235,7 +239,11 @@ static void print_plate(const char *printer, const char *plate) {
         t = seconds() - t;
         if (t < best) best = t;
     }
-    printf("\nthe printer on a plate of 65,536 bytes, 2048 x 1024, a cursor in every raster: %.1f ms, its start included\n", best * 1e3);
+    double call[1];
+    race((work *const[]){ours_text}, call, 1, 40);
+    printf("\nthe printer's text of a plate of 65,536 bytes, 2048 x 1024, a cursor in every raster: %llu bytes\n",
+           (unsigned long long)length);
+    printf("%-26s %9.1f ms\n%-26s %9.1f ms, its start included\n", "the call", call[0] * 1e3, "the program", best * 1e3);
 }
 
 int main(int count, char **words) {
