@@ -23,7 +23,7 @@ use mathlib.Core.Logic.{inl, inr}
 use native.Mathlib.Nat.{zero-add, suc-add}
 use Rattle.runs.proofs.Texts.{picture-accepted, no-more}
 use Rattle.runs.specs.Runs.{lineOf, runsFrom}
-use Rattle.runs.specs.Room.{Put}
+use Rattle.buffers.specs.Put.{Put}
 use Rattle.frame.specs.Frame.{rasterCell}
 use Rattle.plates.specs.Read.{readTold}
 use Rattle.plates.specs.declared.Sections.{Sections}
