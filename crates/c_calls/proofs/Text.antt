@@ -29,7 +29,7 @@ use Rattle.plates.specs.Read.{readTold}
 use Rattle.plates.specs.declared.Sections.{Sections}
 use Rattle.registers.specs.Load.{loadTold}
 use Rattle.runs.specs.Sheet.{sheetTold, pictureTold, registerWords, registersOf, videoList, cursorList}
-use Rattle.runs.specs.Text.{headOf, headLine, refusedLine, labelled, valuesFrom, rasterLine, pictureLine, lineFor, lineAt, linesFor, firstLines, textOf}
+use Rattle.runs.specs.Text.{pairLine, headOf, headLine, refusedLine, labelled, valuesFrom, rasterLine, pictureLine, lineFor, lineAt, linesFor, firstLines, textOf}
 use Rattle.c_calls.specs.Code.{codeOf}
 use Rattle.c_calls.specs.Texts.{textCall, textLeaves, textLength}
 use Rattle.c_calls.proofs.Answers.{short}
@@ -51,7 +51,7 @@ unfolding headLine labelled
 some-head n v w m = rw length-append (omega arith)
 
 some-refused : (n d : ℕ) → 1 ≤ length (refusedLine n d)
-unfolding refusedLine labelled
+unfolding pairLine labelled
 some-refused n d = rw length-append (omega arith)
 
 module _ (file : List ℕ) where
