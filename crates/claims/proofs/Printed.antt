@@ -1,8 +1,9 @@
 -- Demand 1 for a plate that is printed: its refusals, in the order 15, 14, 1 to 9, 11, and the line that says one.
-use Prim.Native.Nat.{ℕ}
+use Prim.Native.Nat.{ℕ, _+_}
 use mathlib.Core.Path.{_≡_, refl, sym, _∙_, ap}
 use mathlib.Core.List.{List, [], _∷_, _++_}
 use lib.ListN.{length}
+use lib.Dec.{ltb}
 use lib.Seq.{sets}
 use denote.Ref.{now}
 use Rattle.registers.specs.Table.{Told, given, refused, Row, row, judged, andThen, First}
@@ -14,7 +15,7 @@ use Rattle.registers.specs.declared.setting.Setting.{Setting}
 use Rattle.frame.specs.Frame.{wordsWrong}
 use Rattle.plates.specs.Plate.{sectionsOf}
 use Rattle.plates.specs.Read.{readTold}
-use Rattle.runs.specs.Sheet.{registerWords, videoList, cursorList, registersOf, pictureTold, sheetTold}
+use Rattle.runs.specs.Sheet.{mostInput, registerWords, videoList, cursorList, registersOf, pictureTold, sheetTold}
 use Rattle.runs.specs.Text.{refusedLine, lineFor, lineAt}
 use Rattle.runs.specs.Strip.{stripFor, stripAt}
 use Rattle.runs.proofs.text.line.Kinds as line-kinds
@@ -50,10 +51,25 @@ reading-told file = refl
 pub sheet-table : (file : List ℕ) → ByTable (sheetTold file) (sheetRows file) (settingOf (registersOf file))
 unfolding sheetTold
 sheet-table file =
-    let picture = picture-told (registersOf file) (videoList file) (cursorList file) in
-    let loading = before (loadTold (registerWords file)) _ tt _ (loadTable (registerWords file)) _ (loaded-told (registerWords file)) picture in
-    let reading = before (readTold file) _ (sectionsOf file) _ (readRows file) _ (reading-told file) loading in
-    by-table _ (sheetRows file) (before _ _ (length file) _ _ _ refl reading)
+    by-table _ (sheetRows file)
+    (before (judged (row 15 (ltb mostInput (length file)) 0 ∷ []) (length file))
+    (andThen (readTold file) (λ _. andThen (loadTold (registerWords file)) (λ _. pictureTold (registersOf file) (videoList file) (cursorList file))))
+    (length file) (settingOf (registersOf file)) (row 15 (ltb mostInput (length file)) 0 ∷ [])
+    (readRows file ++ (loadTable (registerWords file) ++ marksRows (registersOf file) (videoList file) (cursorList file))) refl reading)
+  where
+    loading : andThen (loadTold (registerWords file)) (λ _. pictureTold (registersOf file) (videoList file) (cursorList file))
+        ≡ judged (loadTable (registerWords file) ++ marksRows (registersOf file) (videoList file) (cursorList file)) (settingOf (registersOf file))
+    loading =
+        before (loadTold (registerWords file)) (pictureTold (registersOf file) (videoList file) (cursorList file)) tt (settingOf (registersOf file))
+        (loadTable (registerWords file)) (marksRows (registersOf file) (videoList file) (cursorList file)) (loaded-told (registerWords file))
+        (picture-told (registersOf file) (videoList file) (cursorList file))
+
+    reading : andThen (readTold file) (λ _. andThen (loadTold (registerWords file)) (λ _. pictureTold (registersOf file) (videoList file) (cursorList file)))
+        ≡ judged (readRows file ++ (loadTable (registerWords file) ++ marksRows (registersOf file) (videoList file) (cursorList file))) (settingOf (registersOf file))
+    reading =
+        before (readTold file) (andThen (loadTold (registerWords file)) (λ _. pictureTold (registersOf file) (videoList file) (cursorList file)))
+        (sectionsOf file) (settingOf (registersOf file)) (readRows file)
+        (loadTable (registerWords file) ++ marksRows (registersOf file) (videoList file) (cursorList file)) (reading-told file) loading
 
 -- A refused plate's line 0 is `refused`, the number and the detail; it has no other line and no strip.
 pub line-refuses : Always 2 line-kinds.ps line-kinds.r
@@ -72,4 +88,4 @@ unfolding stripAt
 strip-refuses κs a x s p n d f =
     let none : stripFor (now (a .0)) (a .1 .0) (sheetTold (now (a .0))) ≡ [] =
     ap (stripFor (now (a .0)) (a .1 .0)) (sheet-table (now (a .0)) .refused-when n d .1 f) in
-    (p .after ∙ ap length none, p .stored ∙ ap (sets (now (a .1 .1 .0)) 0) none)
+    (p .after ∙ ap (λ (l : List ℕ). 0 + length l) none, p .stored ∙ ap (sets (now (a .1 .1 .0)) 0) none)
