@@ -1,0 +1,23 @@
+use native.Mathlib.Omega.{arith}
+use Rattle.waves.proofs.Heads.{rate-most}
+use borrow.Author.Needs.{needs}
+use Rattle.waves.proofs.head.head_words.Statement.{statement}
+use Rattle.waves.proofs.head.head_words.Tie as tie
+
+rate-of-requires : tie.Need-rate-of-requires
+rate-of-requires c κs = search needs
+
+mul-bytes : tie.Need-mul-bytes
+mul-bytes c = search needs
+
+add-t5 : tie.Need-add-t5
+add-t5 c = search needs
+
+mul-t6 : tie.Need-mul-t6
+mul-t6 c = rw (c .rate-of .ensures) (record { fits = omega (arith, rate-most (c .before .args .frequency) (search needs)) })
+
+returns : tie.Need-returns
+returns c = rw (c .rate-of .ensures)
+
+pub head-words-spec : {M : Type 1} → statement M
+head-words-spec = tie.close (tie.spec rate-of-requires mul-bytes add-t5 mul-t6 returns)
