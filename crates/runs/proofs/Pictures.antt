@@ -39,7 +39,7 @@ module _ (file words : List ℕ) (k : ℕ) (r : Opened) (o : OpenedFrom file wor
   unfolding stripAt
   strip-refused why q = rw (← o .says, q)
 
-  pub strip-sheet : (s : Setting) → r .checked ≡ checked.Accepted s → sheetStrip r s words k ≡ stripAt file k
+  pub strip-sheet : (s : Setting) → r .checked ≡ checked.Accepted s → sheetStrip (r .parts) s words k ≡ stripAt file k
   unfolding stripAt
   strip-sheet s q = let h = sheet-held file words k r o s q in rw (h .video, h .cursor, h .registers, told-sheet file words k r o s q)
 

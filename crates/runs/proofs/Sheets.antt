@@ -29,7 +29,8 @@ use Rattle.plates.specs.declared.Sections.{Sections}
 use Rattle.plates.specs.declared.Reading.{Reading}
 use Rattle.plates.specs.declared.Reading.the-variants as reading
 use Rattle.plates.proofs.Calls.{right-given, right-ordered, copy-done}
-use Rattle.runs.specs.Sheet.{mostInput, part, registerWords, videoList, cursorList, registersOf, pictureTold, sheetTold, wordsTold, OpenedWords, Held, OpenedFrom}
+use Rattle.runs.specs.Sheet.{mostInput, part, registerWords, videoList, cursorList, soundList, registersOf, takenTold, pictureTold, sheetTold, Held, TakenFrom, OpenedFrom}
+use Rattle.runs.specs.declared.sheet.Taken.{Taken}
 use Rattle.runs.specs.declared.sheet.Opened.{Opened}
 
 -- judging a setting and its word counts
@@ -46,45 +47,23 @@ module _ (g : Registers) (video cursor : List ℕ) (x : Checked) (e : checkSays 
   unfolding pictureTold
   picture-right s q w = rw (← e, q, w)
 
--- words loaded and judged
-module _ (words : List ℕ) (video cursor sound : ℕ) (a : Answer) (e : told a ≡ loadTold (part words 0 video)) where
-  pub words-refused : (why : Refusal) (r : Opened) → a ≡ answer.Refused why → checkSays (r .checked) ≡ refusal why → OpenedWords words video cursor sound r
-  unfolding wordsTold
-  words-refused why r q c =
-      record {
-        says = c ∙ rw (← e, q);
-        held = λ s h. never (sym (rw (← e, q) at h));
-      }
-
-  pub words-loaded : (n g : Registers) (r : Opened) → a ≡ answer.Done → n ≡ fresh
-      → g ≡ unlessRefused (loadTold (part words 0 video)) n (applied n (part words 0 video))
-      → checkSays (r .checked) ≡ pictureTold g (part words video cursor) (part words cursor sound)
-      → r .registers ≡ g → r .video ≡ video → r .cursor ≡ cursor → r .sound ≡ sound → OpenedWords words video cursor sound r
-  unfolding wordsTold
-  words-loaded n g r q f h c i j k l =
-      let g-is : g ≡ applied fresh (part words 0 video) = h ∙ rw (← e, q, f) in
-      record {
-        says = c ∙ rw (← e, q, g-is);
-        held = λ s t. (i ∙ g-is, j, k, l);
-      }
-
--- a file judged
-module _ (file words : List ℕ) (r : Opened) where
-  pub from-large : mostInput < length file → checkSays (r .checked) ≡ refused 15 0 → OpenedFrom file words r
-  unfolding sheetTold
-  from-large h c =
+-- a file taken apart
+module _ (file words : List ℕ) (r : Taken) where
+  pub taken-large : mostInput < length file → told (r .answer) ≡ refused 15 0 → TakenFrom file words r
+  unfolding takenTold
+  taken-large h c =
       record {
         says = c ∙ rw (lt-ltb mostInput (length file) h);
-        held = λ s t. never (sym (rw (lt-ltb mostInput (length file) h) at t));
+        held = λ t. never (sym (rw (lt-ltb mostInput (length file) h) at t));
       }
 
-  pub from-wrong : length file ≤ mostInput → (x : Reading) (why : Refusal) → toldRead x ≡ readTold file → x ≡ reading.Refused why
-      → checkSays (r .checked) ≡ refusal why → OpenedFrom file words r
-  unfolding sheetTold
-  from-wrong h x why e q c =
+  pub taken-wrong : length file ≤ mostInput → (x : Reading) (why : Refusal) → toldRead x ≡ readTold file → x ≡ reading.Refused why
+      → told (r .answer) ≡ refusal why → TakenFrom file words r
+  unfolding takenTold
+  taken-wrong h x why e q c =
       record {
         says = c ∙ rw (le-ltb mostInput (length file) h, ← e, q);
-        held = λ s t. never (sym (rw (le-ltb mostInput (length file) h, ← e, q) at t));
+        held = λ t. never (sym (rw (le-ltb mostInput (length file) h, ← e, q) at t));
       }
 
 -- a plate's sections, in order
@@ -144,25 +123,60 @@ module _ (file o new : List ℕ) (x : Reading) (p : Sections) (short : length fi
   unfolding cursorList
   cursor-part = let k = placed file x p e q in part-copied (p .r - p .c) (p .r - p .s) (omega (arith, k .s-c)) (omega arith) ∙ rw (k .are)
 
-  same-told : wordsTold new (p .r - p .v) (p .r - p .c) (p .r - p .s) ≡ sheetTold file
-  unfolding wordsTold sheetTold registersOf
-  same-told = rw (register-part, video-part, cursor-part, le-ltb mostInput (length file) short, ← e, q)
+  sound-part : part new (p .r - p .s) (p .r) ≡ soundList file
+  unfolding soundList
+  sound-part = let k = placed file x p e q in part-copied (p .r - p .s) (p .r) (omega arith) (omega arith) ∙ rw (k .are)
 
-  pub from-words : (r : Opened) → OpenedWords new (p .r - p .v) (p .r - p .c) (p .r - p .s) r → OpenedFrom file new r
+  taken-is : takenTold file ≡ loadTold (part new 0 (p .r - p .v))
+  unfolding takenTold
+  taken-is = rw (le-ltb mostInput (length file) short, ← e, q, register-part)
+
+  pub taken-words : (r : Taken) (n : Registers) → n ≡ fresh → told (r .answer) ≡ loadTold (part new 0 (p .r - p .v))
+      → r .parts .registers ≡ unlessRefused (loadTold (part new 0 (p .r - p .v))) n (applied n (part new 0 (p .r - p .v)))
+      → r .parts .video ≡ p .r - p .v → r .parts .cursor ≡ p .r - p .c → r .parts .sound ≡ p .r - p .s → r .parts .end ≡ p .r
+      → TakenFrom file new r
   unfolding registersOf
-  from-words r w =
+  taken-words r n f a g i j l m =
       record {
-        says = w .says ∙ same-told;
-        held = λ s t.
-            let h = w .held s (same-told ∙ t) in
+        says = a ∙ sym taken-is;
+        held = λ t.
             let k = placed file x p e q in
-            let n : length new ≡ length o = rw copied-out (length-sets o 0 (copied file)) in
+            let long : length new ≡ length o = rw copied-out (length-sets o 0 (copied file)) in
             record {
-              registers = h .0 ∙ ap (applied fresh) register-part;
-              video-first = omega (arith, h .1, h .2, k .c-v);
-              cursor-first = omega (arith, h .2, h .3, k .s-c);
-              inside = omega (arith, h .3, k .whole, n);
-              video = rw (h .1, h .2) video-part;
-              cursor = rw (h .2, h .3) cursor-part;
+              registers = g ∙ rw (sym taken-is ∙ t, f, register-part);
+              video-first = omega (arith, i, j, k .c-v);
+              cursor-first = omega (arith, j, l, k .s-c);
+              sound-first = omega (arith, l, m);
+              inside = omega (arith, m, k .whole, long);
+              few = omega (arith, m, k .whole);
+              video = rw (i, j) video-part;
+              cursor = rw (j, l) cursor-part;
+              sound = rw (l, m) sound-part;
             };
+      }
+
+-- a plate taken apart, and judged
+pub taken-held : (file words : List ℕ) (t : Taken) → TakenFrom file words t → t .answer ≡ answer.Done → Held file words (t .parts)
+taken-held file words t k q = k .held (sym (k .says) ∙ ap told q)
+
+module _ (file words : List ℕ) (t : Taken) (k : TakenFrom file words t) (r : Opened) where
+  pub open-refused : (why : Refusal) → t .answer ≡ answer.Refused why → checkSays (r .checked) ≡ refusal why → OpenedFrom file words r
+  unfolding sheetTold
+  open-refused why q c =
+      record {
+        says = c ∙ rw (← k .says, q);
+        held = λ s h. never (sym (rw (← k .says, q) at h));
+      }
+
+  pub open-judged : t .answer ≡ answer.Done → r .parts ≡ t .parts
+      → checkSays (r .checked)
+      ≡ pictureTold (t .parts .registers) (part words (t .parts .video) (t .parts .cursor)) (part words (t .parts .cursor) (t .parts .sound))
+      → OpenedFrom file words r
+  unfolding sheetTold
+  open-judged q e c =
+      let is : takenTold file ≡ given tt = sym (k .says) ∙ ap told q in
+      let h = taken-held file words t k q in
+      record {
+        says = c ∙ rw (is, h .registers, h .video, h .cursor);
+        held = λ s _. rw e h;
       }

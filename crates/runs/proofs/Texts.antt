@@ -33,7 +33,7 @@ use Rattle.plates.specs.declared.Sections.{Sections}
 use Rattle.registers.specs.Load.{loadTold}
 use Rattle.runs.specs.Runs.{lineOf}
 use Rattle.buffers.specs.Put.{Put}
-use Rattle.runs.specs.Sheet.{mostInput, registerWords, registersOf, videoList, cursorList, pictureTold, sheetTold, Held, OpenedFrom}
+use Rattle.runs.specs.Sheet.{registersOf, videoList, cursorList, takenTold, pictureTold, sheetTold, Held, OpenedFrom}
 use Rattle.runs.specs.Text.{refusedLine, valuesFrom, rasterLine, headOf, pictureLine, lineFor, lineAt, linesFor, sheetLine, Sheet}
 use Rattle.runs.specs.declared.sheet.Opened.{Opened}
 
@@ -108,18 +108,15 @@ module _ (g : Registers) (video cursor : List ℕ) (s : Setting) (e : pictureTol
   unfolding pictureLine
   line-raster k h a = rw (ne-eqb k 0 h, le-leb _ _ a)
 
--- a sheet that is given has a picture that is given
-told-picture : (file : List ℕ) (s : Setting) → sheetTold file ≡ given s → pictureTold (registersOf file) (videoList file) (cursorList file) ≡ given s
+-- a sheet that is given was taken, and has a picture that is given
+pub told-picture : (file : List ℕ) (s : Setting) → sheetTold file ≡ given s → pictureTold (registersOf file) (videoList file) (cursorList file) ≡ given s
 unfolding sheetTold
-told-picture file s e = go (ltb mostInput (length file)) refl (readTold file) refl (loadTold (registerWords file)) refl e
+told-picture file s e = go (takenTold file) e
   where
-    go : (b : Bool) → ltb mostInput (length file) ≡ b → (t : Told Sections) → readTold file ≡ t → (l : Told (Unit {0})) → loadTold (registerWords file) ≡ l
-        → andThen (pick b (refused 15 0) (given (length file))) (λ _. andThen t (λ _. andThen l (λ _. pictureTold (registersOf file) (videoList file) (cursorList file)))) ≡ given s
+    go : (t : Told (Unit {0})) → andThen t (λ _. pictureTold (registersOf file) (videoList file) (cursorList file)) ≡ given s
         → pictureTold (registersOf file) (videoList file) (cursorList file) ≡ given s
-    go true p t q l w h = never (sym h)
-    go false p (refused n d) q l w h = never (sym h)
-    go false p (given z) q (refused n d) w h = never (sym h)
-    go false p (given z) q (given u) w h = h
+    go (refused n d) h = never (sym h)
+    go (given u) h = h
 
 -- a plate opened, and its line
 module _ (file words : List ℕ) (k : ℕ) (r : Opened) (o : OpenedFrom file words r) where
@@ -136,20 +133,20 @@ module _ (file words : List ℕ) (k : ℕ) (r : Opened) (o : OpenedFrom file wor
     pub told-sheet : sheetTold file ≡ given s
     told-sheet = sym (o .says) ∙ ap checkSays q
 
-    pub sheet-held : Held file words r
+    pub sheet-held : Held file words (r .parts)
     sheet-held = o .held s told-sheet
 
-    pub sheet-known : Sheet r s words
+    pub sheet-known : Sheet (r .parts) s words
     sheet-known =
         let h = sheet-held in
         record {
           video-first = h .video-first;
           cursor-first = h .cursor-first;
-          inside = h .inside;
+          inside = omega (arith, h .sound-first, h .inside);
           told = rw (h .video, h .cursor, h .registers) (told-picture file s told-sheet);
         }
 
-    pub line-sheet : sheetLine r s words k ≡ lineAt file k
+    pub line-sheet : sheetLine (r .parts) s words k ≡ lineAt file k
     unfolding lineAt
     line-sheet = let h = sheet-held in rw (h .video, h .cursor, h .registers, told-sheet)
 

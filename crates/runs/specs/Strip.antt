@@ -10,7 +10,7 @@ use Rattle.frame.specs.Frame.{rasterCell}
 use Rattle.pictures.specs.Colours.{gunsOf}
 use Rattle.runs.specs.Sheet.{part, registersOf, videoList, cursorList, sheetTold}
 use Rattle.runs.specs.Text.{pairLine, valuesFrom}
-use Rattle.runs.specs.declared.sheet.Opened.{Opened}
+use Rattle.runs.specs.declared.sheet.Parts.{Parts}
 
 -- `P6`, a newline, N, a space, V, a newline, `255`, a newline.
 abbrev pub stripHead : ℕ → ℕ → List ℕ
@@ -35,8 +35,8 @@ unfoldable pub stripAt : List ℕ → ℕ → List ℕ
 stripAt file k = stripFor file k (sheetTold file)
 
 -- A strip of an opened plate.
-abbrev pub sheetStrip : Opened → Setting → List ℕ → ℕ → List ℕ
-sheetStrip r s words k = pictureStrip (r .registers) s (part words (r .video) (r .cursor)) (part words (r .cursor) (r .sound)) k
+abbrev pub sheetStrip : Parts → Setting → List ℕ → ℕ → List ℕ
+sheetStrip p s words k = pictureStrip (p .registers) s (part words (p .video) (p .cursor)) (part words (p .cursor) (p .sound)) k
 
 -- The whole file: the strips one after the other.
 abbrev pub stripsFor : Told Setting → ℕ

@@ -13,7 +13,7 @@ use Rattle.marks.specs.Marks.{marksOf}
 use Rattle.runs.specs.Decimal.{decimal}
 use Rattle.runs.specs.Runs.{lineOf}
 use Rattle.runs.specs.Sheet.{part, registersOf, videoList, cursorList, pictureTold, sheetTold}
-use Rattle.runs.specs.declared.sheet.Opened.{Opened}
+use Rattle.runs.specs.declared.sheet.Parts.{Parts}
 
 -- A number behind some letters.
 unfoldable pub labelled : List ℕ → ℕ → List ℕ
@@ -62,14 +62,14 @@ unfoldable pub lineAt : List ℕ → ℕ → List ℕ
 lineAt file k = lineFor file k (sheetTold file)
 
 -- A line of an opened plate, and what is known of one that is not refused.
-abbrev pub sheetLine : Opened → Setting → List ℕ → ℕ → List ℕ
-sheetLine r s words k = pictureLine (r .registers) s (part words (r .video) (r .cursor)) (part words (r .cursor) (r .sound)) k
+abbrev pub sheetLine : Parts → Setting → List ℕ → ℕ → List ℕ
+sheetLine p s words k = pictureLine (p .registers) s (part words (p .video) (p .cursor)) (part words (p .cursor) (p .sound)) k
 
-pub record Sheet (r : Opened) (s : Setting) (words : List ℕ) : Type 0 where
-  pub video-first : r .video ≤ r .cursor
-  pub cursor-first : r .cursor ≤ r .sound
-  pub inside : r .sound ≤ length words
-  pub told : pictureTold (r .registers) (part words (r .video) (r .cursor)) (part words (r .cursor) (r .sound)) ≡ given s
+pub record Sheet (p : Parts) (s : Setting) (words : List ℕ) : Type 0 where
+  pub video-first : p .video ≤ p .cursor
+  pub cursor-first : p .cursor ≤ p .sound
+  pub inside : p .sound ≤ length words
+  pub told : pictureTold (p .registers) (part words (p .video) (p .cursor)) (part words (p .cursor) (p .sound)) ≡ given s
 
 -- How many lines there are, and the whole text: they stand one after the other.
 abbrev pub linesFor : Told Setting → ℕ

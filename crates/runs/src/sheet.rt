@@ -1,4 +1,4 @@
-// A plate opened for printing: judged in the order 15, 14, 1 to 9, 11, its words copied out.
+// A plate taken apart, its words copied out: 15, 14, 1, 2; and judged for its picture: 3 to 9, 11.
 use plates::Reading;
 use registers::check::Checked;
 use registers::record::Registers;
@@ -8,19 +8,80 @@ ghost use mathlib.Core.Path.{_≡_};
 ghost use Prim.Native.Nat.{_≤_};
 ghost use lib.ListN.{length};
 ghost use Rattle.registers.specs.Check.{checkSays};
-ghost use Rattle.runs.specs.Sheet.{pictureTold, OpenedFrom, OpenedWords};
-ghost use Rattle.registers.specs.Table.{refusal};
+ghost use Rattle.registers.specs.Table.{told, refusal};
+ghost use Rattle.runs.specs.Sheet.{pictureTold, TakenFrom, OpenedFrom};
 
-// The most bytes that the printer takes.
+// The most bytes that the programs take.
 const MOST_INPUT: usize = 65_536;
 
-// A plate's record and where its video, cursor and sound words start; or a refusal.
-pub struct Opened {
+// A plate's record, where its video, cursor and sound words start, and where they end.
+pub struct Parts {
     pub registers: Registers,
     pub video: usize,
     pub cursor: usize,
     pub sound: usize,
+    pub end: usize,
+}
+
+pub struct Taken {
+    pub parts: Parts,
+    pub answer: Answer,
+}
+
+pub struct Opened {
+    pub parts: Parts,
     pub checked: Checked,
+}
+
+// What stands beside a refusal.
+fn no_parts() -> Parts {
+    Parts {
+        registers: Registers::new(),
+        video: 0,
+        cursor: 0,
+        sound: 0,
+        end: 0,
+    }
+}
+
+fn not_taken(why: Refusal) -> Taken
+    ensures { λ r. ⌜ told (r .answer) ≡ refusal why ⌝ }
+{
+    Taken {
+        parts: no_parts(),
+        answer: Answer::Refused(why),
+    }
+}
+
+// A plate taken apart, and its words copied out where it is right.
+pub fn take(file: &[u8], words: &mut [u32]) -> Taken
+    requires { ⌜ 16384 ≤ length (now words) ⌝ }
+    ensures { λ r. ⌜ TakenFrom (now (file .entry)) (now (words .exit)) r ⌝ }
+{
+    if MOST_INPUT < file.len() {
+        return not_taken(Refusal::TooLarge);
+    }
+    match plates::read(file) {
+        Reading::Refused(why) => not_taken(why),
+        Reading::Plate(p) => {
+            plates::copy_out(file, words);
+            let video = (p.r - p.v) as usize;
+            let loaded = Registers::new().load(&words[0..video]);
+            let g = loaded.registers;
+            let answer = loaded.answer;
+            let parts = Parts {
+                registers: g,
+                video: video,
+                cursor: (p.r - p.c) as usize,
+                sound: (p.r - p.s) as usize,
+                end: p.r as usize,
+            };
+            Taken {
+                parts: parts,
+                answer: answer,
+            }
+        }
+    }
 }
 
 // The setting, and both word counts right.
@@ -38,56 +99,28 @@ fn judge(g: Registers, video: &[u32], cursor: &[u32]) -> Checked
     }
 }
 
-fn refused(why: Refusal) -> Opened
-    ensures { λ r. ⌜ checkSays (r .checked) ≡ refusal why ⌝ }
-{
-    Opened {
-        registers: Registers::new(),
-        video: 0,
-        cursor: 0,
-        sound: 0,
-        checked: Checked::Refused(why),
-    }
-}
-
-// A plate's words, with the starts of its sections: loaded and judged.
-fn open_words(words: &[u32], video: usize, cursor: usize, sound: usize) -> Opened
-    requires { ⌜ (video ≤ cursor) × (cursor ≤ sound) × (sound ≤ length (now words)) ⌝ }
-    ensures { λ r. ⌜ OpenedWords (now (words .entry)) video cursor sound r ⌝ }
-{
-    let loaded = Registers::new().load(&words[0..video]);
-    let answer = loaded.answer;
-    match answer {
-        Answer::Refused(why) => refused(why),
-        Answer::Done => {
-            let g = loaded.registers;
-            Opened {
-                registers: g,
-                video: video,
-                cursor: cursor,
-                sound: sound,
-                checked: judge(g, &words[video..cursor], &words[cursor..sound]),
-            }
-        }
-    }
-}
-
-// A plate judged, and its words copied out where it is right.
+// A plate taken apart and judged for its picture.
 pub fn open(file: &[u8], words: &mut [u32]) -> Opened
     requires { ⌜ 16384 ≤ length (now words) ⌝ }
     ensures { λ r. ⌜ OpenedFrom (now (file .entry)) (now (words .exit)) r ⌝ }
 {
-    if MOST_INPUT < file.len() {
-        return refused(Refusal::TooLarge);
-    }
-    match plates::read(file) {
-        Reading::Refused(why) => refused(why),
-        Reading::Plate(p) => {
-            plates::copy_out(file, words);
-            let video = (p.r - p.v) as usize;
-            let cursor = (p.r - p.c) as usize;
-            let sound = (p.r - p.s) as usize;
-            open_words(words, video, cursor, sound)
+    let taken = take(file, words);
+    let answer = taken.answer;
+    let parts = taken.parts;
+    match answer {
+        Answer::Refused(why) => Opened {
+            parts: parts,
+            checked: Checked::Refused(why),
+        },
+        Answer::Done => {
+            let g = parts.registers;
+            let video = parts.video;
+            let cursor = parts.cursor;
+            let sound = parts.sound;
+            Opened {
+                parts: parts,
+                checked: judge(g, &words[video..cursor], &words[cursor..sound]),
+            }
         }
     }
 }

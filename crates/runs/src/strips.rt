@@ -1,5 +1,5 @@
 // One strip of a plate's picture, as a binary PPM file has it: its head, then a strip for each raster.
-use crate::sheet::Opened;
+use crate::sheet::Parts;
 use crate::sheet::open;
 use crate::words::put_pair;
 use registers::check::Checked;
@@ -34,9 +34,9 @@ fn raster_strip(
 }
 
 // Strip k of an opened plate.
-fn sheet_strip(out: &mut [u8], opened: Opened, s: Setting, words: &[u32], k: usize) -> usize
-    requires { ⌜ (6144 ≤ length (now out)) × Sheet opened s (now words) ⌝ }
-    ensures { λ r. ⌜ Put (now (out .entry)) (now (out .exit)) 0 (sheetStrip opened s (now (words .entry)) k) r ⌝ }
+fn sheet_strip(out: &mut [u8], parts: Parts, s: Setting, words: &[u32], k: usize) -> usize
+    requires { ⌜ (6144 ≤ length (now out)) × Sheet parts s (now words) ⌝ }
+    ensures { λ r. ⌜ Put (now (out .entry)) (now (out .exit)) 0 (sheetStrip parts s (now (words .entry)) k) r ⌝ }
 {
     if k == 0 {
         return put_pair(out, b"P6\n", s.n.0 as u32, s.v.0 as u32, b"\n255\n");
@@ -44,12 +44,12 @@ fn sheet_strip(out: &mut [u8], opened: Opened, s: Setting, words: &[u32], k: usi
     if (s.v.0 as usize) < k {
         return 0;
     }
-    let video = opened.video;
-    let cursor = opened.cursor;
-    let sound = opened.sound;
+    let video = parts.video;
+    let cursor = parts.cursor;
+    let sound = parts.sound;
     raster_strip(
         out,
-        opened.registers,
+        parts.registers,
         s,
         &words[video..cursor],
         &words[cursor..sound],
@@ -66,6 +66,6 @@ pub fn strip(file: &[u8], k: usize, out: &mut [u8; 6144]) -> usize
     let checked = opened.checked;
     match checked {
         Checked::Refused(_) => 0,
-        Checked::Accepted(s) => sheet_strip(out, opened, s, &words, k),
+        Checked::Accepted(s) => sheet_strip(out, opened.parts, s, &words, k),
     }
 }

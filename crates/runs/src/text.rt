@@ -1,6 +1,6 @@
 // One line of a plate's text.
 use crate::line::put_line;
-use crate::sheet::Opened;
+use crate::sheet::Parts;
 use crate::sheet::open;
 use crate::words::put_head;
 use crate::words::put_refused;
@@ -71,16 +71,16 @@ fn picture_line(
 }
 
 // Line k of an opened plate.
-fn sheet_line(out: &mut [u8], opened: Opened, s: Setting, words: &[u32], k: usize) -> usize
-    requires { ⌜ (8256 ≤ length (now out)) × (length (now words) < 65536) × Sheet opened s (now words) ⌝ }
-    ensures { λ r. ⌜ Put (now (out .entry)) (now (out .exit)) 0 (sheetLine opened s (now (words .entry)) k) r ⌝ }
+fn sheet_line(out: &mut [u8], parts: Parts, s: Setting, words: &[u32], k: usize) -> usize
+    requires { ⌜ (8256 ≤ length (now out)) × (length (now words) < 65536) × Sheet parts s (now words) ⌝ }
+    ensures { λ r. ⌜ Put (now (out .entry)) (now (out .exit)) 0 (sheetLine parts s (now (words .entry)) k) r ⌝ }
 {
-    let video = opened.video;
-    let cursor = opened.cursor;
-    let sound = opened.sound;
+    let video = parts.video;
+    let cursor = parts.cursor;
+    let sound = parts.sound;
     picture_line(
         out,
-        opened.registers,
+        parts.registers,
         s,
         &words[video..cursor],
         &words[cursor..sound],
@@ -102,6 +102,6 @@ pub fn line(file: &[u8], k: usize, out: &mut [u8; 8256]) -> usize
             }
             put_refused(out, why.number(), why.detail())
         }
-        Checked::Accepted(s) => sheet_line(out, opened, s, &words, k),
+        Checked::Accepted(s) => sheet_line(out, opened.parts, s, &words, k),
     }
 }

@@ -1,78 +1,95 @@
-use Rattle.runs.proofs.Sheets.{from-large, from-wrong, placed, from-words}
+use Rattle.runs.proofs.Sheets.{taken-held, open-refused, open-judged}
 use native.Mathlib.Omega.{arith}
+use mathlib.Core.Path.{refl}
 use borrow.Author.Needs.{needs}
 use Rattle.runs.proofs.sheet.open.Statement.{statement}
 use Rattle.runs.proofs.sheet.open.Tie as tie
+use Rattle.runs.proofs.sheet.open.Reads as reads
+use Rattle.runs.proofs.sheet.open.Lts as lts
+use Rattle.runs.proofs.sheet.judge.Reads as judge-reads
+use Rattle.runs.proofs.sheet.take.Reads as take-reads
 
-refused-requires : tie.Need-refused-requires
-refused-requires c κs = search needs
+-- src/sheet.rt:107:9
+take-requires : tie.Need-take-requires
+take-requires c κs = search needs
 
-returns : tie.Need-returns
-returns c = from-large _ _ _ (c .before .if1 .taken) (c .refused .ensures)
+-- src/sheet.rt:111:25
+enum-known-answer : tie.Need-enum-known-answer
+enum-known-answer c = search needs
 
-read-requires : tie.Need-read-requires
-read-requires c κs = search needs
+-- src/sheet.rt:116:17
+enum-told : tie.Need-enum-told
+enum-told c = search needs
 
-enum-known-why : tie.Need-enum-known-why
-enum-known-why c = search needs
+-- src/sheet.rt:122:35
+mul-judge : tie.Need-mul-judge
+mul-judge c = let h = taken-held _ _ _ (c .before .before .before .before .before .before .take .ensures) (c .before .enum-told .given .1) in  record { fits = omega (arith, h .video-first, h .cursor-first, h .sound-first, h .inside, h .few) }
 
-refused-requires-2 : tie.Need-refused-requires-2
-refused-requires-2 c κs = search needs
+-- src/sheet.rt:122:35
+sub-judge : tie.Need-sub-judge
+sub-judge c = let h = taken-held _ _ _ (c .before .before .before .before .before .before .take .ensures) (c .before .enum-told .given .1) in  omega (arith, h .video-first, h .cursor-first, h .sound-first, h .inside, h .few)
 
-enum-known-p : tie.Need-enum-known-p
-enum-known-p c = search needs
+-- src/sheet.rt:122:35
+part-judge-start : tie.Need-part-judge-start
+part-judge-start c = let h = taken-held _ _ _ (c .before .before .before .before .before .before .before .take .ensures) (c .before .before .enum-told .given .1) in  omega (arith, h .video-first, h .cursor-first, h .sound-first, h .inside, h .few)
 
-copy-out-requires : tie.Need-copy-out-requires
-copy-out-requires c κs = search needs
+-- src/sheet.rt:122:35
+part-judge-end : tie.Need-part-judge-end
+part-judge-end c = let h = taken-held _ _ _ (c .before .before .before .before .before .before .before .take .ensures) (c .before .before .enum-told .given .1) in  omega (arith, h .video-first, h .cursor-first, h .sound-first, h .inside, h .few)
 
-sub-video : tie.Need-sub-video
-sub-video c = let k = placed _ _ _ (c .before .before .before .before .before .before .before .before .read .ensures) (c .before .before .before .before .before .before .p .given .1) in k .v-r
+-- src/sheet.rt:122:58
+mul-judge-2 : tie.Need-mul-judge-2
+mul-judge-2 c = let h = taken-held _ _ _ (c .before .before .before .before .before .before .before .before .take .ensures) (c .before .before .before .enum-told .given .1) in  record { fits = omega (arith, h .video-first, h .cursor-first, h .sound-first, h .inside, h .few) }
 
-cast-video : tie.Need-cast-video
-cast-video c = search needs
+-- src/sheet.rt:122:58
+sub-judge-2 : tie.Need-sub-judge-2
+sub-judge-2 c = let h = taken-held _ _ _ (c .before .before .before .before .before .before .before .before .take .ensures) (c .before .before .before .enum-told .given .1) in  omega (arith, h .video-first, h .cursor-first, h .sound-first, h .inside, h .few)
 
-sub-cursor : tie.Need-sub-cursor
-sub-cursor c = let k = placed _ _ _ (c .before .before .before .before .before .before .before .before .before .read .ensures) (c .before .before .before .before .before .before .before .p .given .1) in omega (arith, k .v-r, k .c-v)
+-- src/sheet.rt:122:58
+part-judge-start-2 : tie.Need-part-judge-start-2
+part-judge-start-2 c = let h = taken-held _ _ _ (c .before .before .before .before .before .before .before .before .take .ensures) (c .before .before .before .enum-told .given .1) in  omega (arith, h .video-first, h .cursor-first, h .sound-first, h .inside, h .few)
 
-cast-cursor : tie.Need-cast-cursor
-cast-cursor c = search needs
+-- src/sheet.rt:122:58
+part-judge-end-2 : tie.Need-part-judge-end-2
+part-judge-end-2 c = let h = taken-held _ _ _ (c .before .before .before .before .before .before .before .before .take .ensures) (c .before .before .before .enum-told .given .1) in  omega (arith, h .video-first, h .cursor-first, h .sound-first, h .inside, h .few)
 
-sub-sound : tie.Need-sub-sound
-sub-sound c = let k = placed _ _ _ (c .before .before .before .before .before .before .before .before .before .before .read .ensures) (c .before .before .before .before .before .before .before .before .p .given .1) in omega (arith, k .v-r, k .c-v, k .s-c)
+-- src/sheet.rt:122:26
+judge-requires : tie.Need-judge-requires
+judge-requires c κs = search needs
 
-cast-sound : tie.Need-cast-sound
-cast-sound c = search needs
-
-open-words-requires : tie.Need-open-words-requires
-open-words-requires c κs = let k = placed _ _ _ (c .before .before .before .before .before .before .before .before .before .before .before .read .ensures) (c .before .before .before .before .before .before .before .before .before .p .given .1) in (omega (arith, k .v-r, k .c-v), omega (arith, k .v-r, k .c-v, k .s-c), omega (arith, k .whole, c .before .before .before .before .before .before .copy-out .kept .1 .0, c .before .before .before .before .before .before .before .before .before .before .before .before .before .before .before .pre, c .before .before .before .before .before .before .before .before .before .before .before .before .if1 .left))
-
-returns-2 : tie.Need-returns-2
-returns-2 c = from-wrong _ _ _ (c .before .before .before .before .before .if1 .left) _ _ (c .before .before .before .before .read .ensures) (c .before .before .why .given .1) (c .refused2 .ensures)
-
+-- src/sheet.rt:103:1
 same-length : tie.Need-same-length
 same-length c = search needs
 
-returns-3 : tie.Need-returns-3
-returns-3 c = from-words _ (c .before .before .before .before .before .before .before .before .before .before .before .before .before .before .before .before .args .words .now) _ _ _ (c .before .before .before .before .before .before .before .before .before .before .before .before .before .if1 .left) (c .before .before .before .before .before .before .before .before .before .before .before .before .read .ensures) (c .before .before .before .before .before .before .before .before .before .before .p .given .1) (c .before .before .before .before .before .before .before .before .before .before .before .before .before .before .before .before .pre) (c .before .before .before .before .before .before .before .copy-out .ensures .1) _ (c .open-words .ensures)
+-- src/sheet.rt:103:1
+returns : tie.Need-returns
+returns c = open-refused _ _ _ (c .before .before .before .before .before .before .take .ensures) _ _ (c .before .answer .given .1) refl
+
+-- src/sheet.rt:103:1
+same-length-2 : tie.Need-same-length-2
+same-length-2 c = search needs
+
+-- src/sheet.rt:103:1
+returns-2 : tie.Need-returns-2
+returns-2 c = open-judged _ _ _ (c .before .before .before .before .before .before .before .before .before .before .take .ensures) _ (c .before .before .before .before .before .enum-told .given .1) refl (c .judge .ensures)
 
 pub open-spec : {M : Type 1} → statement M
 open-spec =
     tie.close
     (tie.spec
-    refused-requires
-    returns
-    read-requires
-    enum-known-why
-    refused-requires-2
-    enum-known-p
-    copy-out-requires
-    sub-video
-    cast-video
-    sub-cursor
-    cast-cursor
-    sub-sound
-    cast-sound
-    open-words-requires
-    returns-2
+    take-requires
+    enum-known-answer
+    enum-told
+    mul-judge
+    sub-judge
+    part-judge-start
+    part-judge-end
+    mul-judge-2
+    sub-judge-2
+    part-judge-start-2
+    part-judge-end-2
+    judge-requires
     same-length
-    returns-3)
+    returns
+    same-length-2
+    returns-2)
