@@ -6,3 +6,4 @@ pub mod Sheets
 pub mod Texts
 pub mod Pictures
 pub mod Unique
+pub mod Waves

@@ -1,29 +1,29 @@
 -- Laws of opening a plate: each refusal in its order, and what is held where there is none.
-use Prim.Native.Nat.{ℕ, _+_, _*_, _-_, _/_, _<_, _≤_}
+use Prim.Native.Nat.{ℕ, _+_, _*_, _-_, _<_, _≤_}
 use mathlib.Core.Path.{_≡_, refl, sym, _∙_, ap}
-use mathlib.Core.Bool.{true, false}
-use mathlib.Core.List.{List, [], _∷_, _++_}
+use mathlib.Core.Bool.{Bool, true, false}
+use mathlib.Core.List.{List}
 use native.Mathlib.Omega.{arith}
-use lib.ListN.{length, take, drop, length-drop}
+use lib.ListN.{length, take, drop, length-drop, length-take}
 use lib.Seq.{sets, sets-eq, drop-append-le, take-append-le, length-sets, length-take-le}
 use lib.Dec.{ltb}
-use borrow.Author.Tests.{lt-ltb, le-ltb}
+use borrow.Author.Tests.{lt-ltb, le-ltb, ltb-false}
+use Rattle.buffers.specs.Pick.{pick}
 use Rattle.buffers.specs.Words.{wordsOf}
 use Rattle.buffers.proofs.Words.{length-words}
-use Rattle.registers.specs.Table.{Told, given, refused, refusal, told, unlessRefused}
+use Rattle.registers.specs.Table.{Told, given, refused, refusal, told, andThen, unlessRefused}
 use Rattle.registers.specs.Record.{fresh}
 use Rattle.registers.specs.Load.{applied, loadTold}
 use Rattle.registers.specs.Check.{checkTold, checkSays}
 use Rattle.registers.specs.declared.record.Registers.{Registers}
 use Rattle.registers.specs.declared.refusal.Refusal.{Refusal}
-use Rattle.registers.specs.declared.refusal.Answer.{Answer}
 use Rattle.registers.specs.declared.refusal.Answer.the-variants as answer
 use Rattle.registers.specs.declared.setting.Setting.{Setting}
 use Rattle.registers.specs.declared.check.Checked.{Checked}
 use Rattle.registers.specs.declared.check.Checked.the-variants as checked
 use Rattle.registers.proofs.Tables.{never}
 use Rattle.frame.specs.Frame.{wordsWrong}
-use Rattle.plates.specs.Plate.{rOf, vOf, cOf, sOf, sectionsOf}
+use Rattle.plates.specs.Plate.{rOf, sectionsOf}
 use Rattle.plates.specs.Read.{toldRead, readTold, copyTold, copied}
 use Rattle.plates.specs.declared.Sections.{Sections}
 use Rattle.plates.specs.declared.Reading.{Reading}
@@ -180,3 +180,20 @@ module _ (file words : List ℕ) (t : Taken) (k : TakenFrom file words t) (r : O
         says = c ∙ rw (is, h .registers, h .video, h .cursor);
         held = λ s _. rw e h;
       }
+
+-- a plate that is taken has few words
+few-words : (file : List ℕ) → takenTold file ≡ given tt → rOf file ≤ 16380
+unfolding takenTold
+few-words file e = go (ltb mostInput (length file)) refl (readTold file) refl e
+  where
+    go : (b : Bool) → ltb mostInput (length file) ≡ b → (t : Told Sections) → readTold file ≡ t
+        → andThen (pick b (refused 15 0) (given (length file))) (λ _. andThen t (λ _. loadTold (registerWords file))) ≡ given tt → rOf file ≤ 16380
+    go true h t q w = never (sym w)
+    go false h (refused n d) q w = never (sym w)
+    go false h (given p) q w =
+        let o = right-ordered file (right-given file p (sym q) .is-right) in
+        omega (arith, o .whole, ltb-false mostInput (length file) h)
+
+pub few-sounds : (file : List ℕ) → takenTold file ≡ given tt → length (soundList file) ≤ 16380
+unfolding soundList
+few-sounds file e = rw (length-take, length-drop) (omega (arith, few-words file e))

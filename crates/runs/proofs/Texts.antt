@@ -1,25 +1,20 @@
 -- Laws of the lines: cells painted are the cells of the line, and a picture that is not refused has its marks and its rasters.
 use Prim.Native.Nat.{ℕ, zero, suc, _+_, _-_, _<_, _≤_}
 use mathlib.Core.Path.{_≡_, refl, sym, _∙_, ap}
-use mathlib.Core.Bool.{Bool, true, false}
+use mathlib.Core.Bool.{false}
 use mathlib.Core.List.{List, [], _∷_}
-use native.Mathlib.Numerals.{add-one}
 use native.Mathlib.Nat.{zero-add, sub-zero}
 use native.Mathlib.Omega.{arith}
-use lib.ListN.{length, take, drop, getD}
-use lib.Seq.{sets, ext-getD, getD-take, length-take-le}
-use lib.Dec.{ltb, leb, eqb}
-use borrow.Author.Tests.{lt-ltb, le-ltb, lt-leb, le-leb, eq-eqb, ne-eqb}
-use Rattle.buffers.specs.Pick.{pick}
+use lib.ListN.{length, take, getD}
+use lib.Seq.{ext-getD, getD-take, length-take-le}
+use borrow.Author.Tests.{le-ltb, lt-leb, le-leb, eq-eqb, ne-eqb}
 use Rattle.buffers.specs.Painted.{painted}
-use Rattle.buffers.proofs.Paints.{Paints, paints-of, length-painted}
-use Rattle.registers.specs.Table.{Told, given, refused, refusal, judged, row, andThen, numberOf, detailOf}
-use Rattle.registers.specs.Setting.{settingOf}
+use Rattle.buffers.proofs.Paints.{paints-of, length-painted}
+use Rattle.registers.specs.Table.{Told, given, refused, judged, row, andThen, numberOf, detailOf}
 use Rattle.registers.specs.Check.{checkTold, checkSays}
 use Rattle.registers.specs.declared.record.Registers.{Registers}
 use Rattle.registers.specs.declared.refusal.Refusal.{Refusal}
 use Rattle.registers.specs.declared.setting.Setting.{Setting}
-use Rattle.registers.specs.declared.check.Checked.{Checked}
 use Rattle.registers.specs.declared.check.Checked.the-variants as checked
 use Rattle.registers.proofs.Tables.{never, given-passes}
 use Rattle.registers.proofs.Exactly.{accepted-setting}
@@ -28,9 +23,6 @@ use Rattle.frame.specs.Frame.{wordsWrong, rasterCell, rasterTold, rasterHeld}
 use Rattle.marks.specs.Marks.{marksOf, marksTold, marksSays}
 use Rattle.marks.specs.declared.answer.Marks.{Marks}
 use Rattle.marks.specs.declared.answer.Marks.the-variants as marks
-use Rattle.plates.specs.Read.{readTold}
-use Rattle.plates.specs.declared.Sections.{Sections}
-use Rattle.registers.specs.Load.{loadTold}
 use Rattle.runs.specs.Runs.{lineOf}
 use Rattle.buffers.specs.Put.{Put}
 use Rattle.runs.specs.Sheet.{registersOf, videoList, cursorList, takenTold, pictureTold, sheetTold, Held, OpenedFrom}

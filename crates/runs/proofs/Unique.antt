@@ -2,6 +2,10 @@
 use mathlib.Core.Path.{sym, _∙_}
 use denote.Ref.{now}
 use Rattle.buffers.proofs.Coincide.{OneState}
+use Rattle.runs.proofs.blocks.block.Kinds as block-kinds
+use Rattle.runs.proofs.blocks.block.Reads as block-reads
+use Rattle.runs.proofs.blocks.refusal.Kinds as refusal-kinds
+use Rattle.runs.proofs.blocks.refusal.Reads as refusal-reads
 use Rattle.runs.proofs.strips.strip.Kinds as strip-kinds
 use Rattle.runs.proofs.strips.strip.Reads as strip-reads
 use Rattle.runs.proofs.text.line.Kinds as line-kinds
@@ -12,3 +16,9 @@ one-line κs a x y s t p q = (p .after ∙ sym (q .after), p .stored ∙ sym (q 
 
 pub one-strip : OneState 2 strip-kinds.ps strip-kinds.r (λ κs s. now (s .1 .1 .0)) strip-reads.Post
 one-strip κs a x y s t p q = (p .after ∙ sym (q .after), p .stored ∙ sym (q .stored))
+
+pub one-block : OneState 2 block-kinds.ps block-kinds.r (λ κs s. now (s .1 .1 .0)) block-reads.Post
+one-block κs a x y s t p q = (p .after ∙ sym (q .after), p .stored ∙ sym (q .stored))
+
+pub one-refusal : OneState 2 refusal-kinds.ps refusal-kinds.r (λ κs s. now (s .1 .0)) refusal-reads.Post
+one-refusal κs a x y s t p q = (p .after ∙ sym (q .after), p .stored ∙ sym (q .stored))

@@ -1,4 +1,5 @@
-// The run printer's text: numbers, runs and lines, byte for byte.
+// What the programs write, byte for byte: the run printer's lines, a picture's strips, a sound's blocks.
+pub mod blocks;
 mod line;
 mod number;
 mod sheet;

@@ -7,3 +7,4 @@ pub mod Unique
 pub mod Cases
 pub mod Accepted
 pub mod Places
+pub mod Parts

@@ -48,3 +48,7 @@ pub put-samples : (o n : List ℕ) (values : List ℤ) → 2 * length values ≤
     → Put o n 0 (samplesIn (length o) values) (2 * length values)
 put-samples o n values h e =
     rw (some-room (length o) values h) (record { stored = e; after = omega (arith, length-samples values); inside = h })
+
+pub samples-none : samplesOf [] ≡ []
+unfolding samplesOf
+samples-none = refl

@@ -4,99 +4,70 @@ use mathlib.Core.Path.{refl}
 use borrow.Author.Needs.{needs}
 use Rattle.runs.proofs.sheet.take.Statement.{statement}
 use Rattle.runs.proofs.sheet.take.Tie as tie
-use Rattle.runs.proofs.sheet.take.Reads as reads
-use Rattle.runs.proofs.sheet.take.Lts as lts
-use Rattle.plates.proofs.copy_out.Reads as copy-out-reads
-use Rattle.plates.proofs.read.Reads as read-reads
-use Rattle.registers.proofs.record.Registers.load.Reads as load-reads
-use Rattle.registers.proofs.record.Registers.new.Reads as new-reads
-use Rattle.runs.proofs.sheet.not_taken.Reads as not-taken-reads
 
--- src/sheet.rt:62:9
 not-taken-requires : tie.Need-not-taken-requires
 not-taken-requires c κs = search needs
 
--- src/sheet.rt:62:9
 returns : tie.Need-returns
 returns c = taken-large _ _ _ (c .before .if1 .taken) (c .not-taken .ensures)
 
--- src/sheet.rt:64:11
 read-requires : tie.Need-read-requires
 read-requires c κs = search needs
 
--- src/sheet.rt:65:26
 enum-known-why : tie.Need-enum-known-why
 enum-known-why c = search needs
 
--- src/sheet.rt:65:34
 not-taken-requires-2 : tie.Need-not-taken-requires-2
 not-taken-requires-2 c κs = search needs
 
--- src/sheet.rt:66:24
 enum-known-p : tie.Need-enum-known-p
 enum-known-p c = search needs
 
--- src/sheet.rt:67:13
 copy-out-requires : tie.Need-copy-out-requires
 copy-out-requires c κs = search needs
 
--- src/sheet.rt:68:26
 sub-video : tie.Need-sub-video
 sub-video c = let k = placed _ _ _ (c .before .before .before .before .before .before .before .before .read .ensures) (c .before .before .before .before .before .before .p .given .1) in k .v-r
 
--- src/sheet.rt:68:25
 cast-video : tie.Need-cast-video
 cast-video c = search needs
 
--- src/sheet.rt:69:26
 new-requires : tie.Need-new-requires
 new-requires c κs = search needs
 
--- src/sheet.rt:69:48
 sub-load : tie.Need-sub-load
 sub-load c = search needs
 
--- src/sheet.rt:69:48
 part-load-start : tie.Need-part-load-start
 part-load-start c = search needs
 
--- src/sheet.rt:69:48
 part-load-end : tie.Need-part-load-end
 part-load-end c = let k = placed _ _ _ (c .before .before .before .before .before .before .before .before .before .before .read .ensures) (c .before .before .before .before .before .before .before .before .p .given .1) in omega (arith, k .whole, c .before .before .before .before .before .copy-out .kept .1 .0, c .before .before .before .before .before .before .before .before .before .before .before .before .before .before .pre, c .before .before .before .before .before .before .before .before .before .before .before .if1 .left)
 
--- src/sheet.rt:69:17
 load-requires : tie.Need-load-requires
 load-requires c κs = search needs
 
--- src/sheet.rt:75:26
 sub-t18 : tie.Need-sub-t18
 sub-t18 c = let k = placed _ _ _ (c .before .before .before .before .before .before .before .before .before .before .before .before .before .before .read .ensures) (c .before .before .before .before .before .before .before .before .before .before .before .before .p .given .1) in omega (arith, k .v-r, k .c-v)
 
--- src/sheet.rt:75:25
 cast-t21 : tie.Need-cast-t21
 cast-t21 c = search needs
 
--- src/sheet.rt:76:25
 sub-t24 : tie.Need-sub-t24
 sub-t24 c = let k = placed _ _ _ (c .before .before .before .before .before .before .before .before .before .before .before .before .before .before .before .read .ensures) (c .before .before .before .before .before .before .before .before .before .before .before .before .before .p .given .1) in omega (arith, k .v-r, k .c-v, k .s-c)
 
--- src/sheet.rt:76:24
 cast-t25 : tie.Need-cast-t25
 cast-t25 c = search needs
 
--- src/sheet.rt:77:22
 cast-t26 : tie.Need-cast-t26
 cast-t26 c = search needs
 
--- src/sheet.rt:57:1
 returns-2 : tie.Need-returns-2
 returns-2 c = taken-wrong _ _ _ (c .before .before .before .before .before .if1 .left) _ _ (c .before .before .before .before .read .ensures) (c .before .before .why .given .1) (c .not-taken2 .ensures)
 
--- src/sheet.rt:57:1
 same-length : tie.Need-same-length
 same-length c = search needs
 
--- src/sheet.rt:57:1
 returns-3 : tie.Need-returns-3
 returns-3 c = taken-words _ (c .before .before .before .before .before .before .before .before .before .before .before .before .before .before .before .before .before .before .before .before .args .words .now) _ _ _ (c .before .before .before .before .before .before .before .before .before .before .before .before .before .before .before .before .before .if1 .left) (c .before .before .before .before .before .before .before .before .before .before .before .before .before .before .before .before .read .ensures) (c .before .before .before .before .before .before .before .before .before .before .before .before .before .before .p .given .1) (c .before .before .before .before .before .before .before .before .before .before .before .before .before .before .before .before .before .before .before .before .pre) (c .before .before .before .before .before .before .before .before .before .before .before .copy-out .ensures .1) _ _ (c .before .before .before .before .before .before .before .new .ensures) (c .before .before .before .before .load .ensures .0) (c .before .before .before .before .load .ensures .1) refl refl refl refl
 
