@@ -30,6 +30,12 @@ void stretches_clang(const struct picture *, uint16_t *out);
 void bytes_gcc(const struct picture *, uint16_t *out);
 void bytes_clang(const struct picture *, uint16_t *out);
 void stretches_rust(const struct picture *, uint16_t *out);
+
+// Ours again, by the safe Rust wrapper over the same calls; a record in its own type is made beforehand.
+struct record;
+const struct record *wrapped_record(const uint32_t values[64], const uint8_t written[64]);
+void wrapped_frame(const struct record *, const uint32_t *video, size_t, const uint32_t *cursor, size_t, uint16_t *cells, size_t);
+
 uint64_t count_gcc(const struct picture *, uint32_t threshold);
 
 uint32_t sound_gcc(const uint8_t stereo[8], const uint32_t *words, size_t, uint32_t counter, int16_t *out);

@@ -12,7 +12,7 @@
 
 extern char **environ;
 
-enum { LARGEST = 2048 * 1024, PLATE = 4194304, PLATE_WORDS = PLATE / 4 - 4, SOUNDS = 16384 };
+enum { LARGEST = 2048 * 1024, PLATE = 4194304, PLATE_WORDS = PLATE / 4 - 4, SOUNDS = 16384, MOST_RUNS = 9 };
 
 // All write to the same places, and what ours wrote is kept to be compared.
 static uint32_t values[64], noise[PLATE_WORDS], words_out[PLATE_WORDS], words_kept[PLATE_WORDS];
@@ -24,6 +24,7 @@ static uint32_t after;
 static uint64_t marks, length;
 static uint8_t text[16 << 20];
 static struct picture pic;
+static const struct record *record; // the same registers in the Rust wrapper's type
 
 #define GIVEN values, 64, written, 64
 
@@ -43,6 +44,7 @@ static void load(void) {
     memset(values, 0, sizeof values);
     memset(written, 0, sizeof written);
     if (vom_load(GIVEN, registers, register_count)) die("the registers were refused");
+    record = wrapped_record(values, written);
 }
 
 // A geometry by its positions: N HS BS DS DE BE CX, then V VS VBS VDS VDE VBE VCS VCE.
@@ -87,6 +89,7 @@ static void smallest(uint32_t depth) {
 
 #define FRAME pic.video, pic.video_words, pic.shape, pic.cursor_words
 static void ours_frame(void) { if (vom_frame(GIVEN, FRAME, cells, LARGEST)) die("the frame was refused"); }
+static void by_wrapper(void) { wrapped_frame(record, FRAME, cells, LARGEST); }
 static void ours_marks(void) { if (vom_marks(GIVEN, FRAME, 128, &marks, 1)) die("the marks were refused"); }
 static void ours_sound(void) { if (vom_sound(GIVEN, noise, SOUNDS, 5, sound_out, SOUNDS * 8, &after, 1)) die("sound was refused"); }
 static void ours_copy(void) { if (vom_copy(file, PLATE, words_out, PLATE_WORDS)) die("the copy was refused"); }
@@ -130,7 +133,7 @@ static double seconds(void) {
 
 // The best time of each, in seconds: all take turns, so that what else the machine does falls on all alike.
 static void race(work *const *runs, double *best, int count, int rounds) {
-    int times[8];
+    int times[MOST_RUNS];
     for (int i = 0; i < count; i++) {
         if (!runs[i]) continue;
         runs[i]();
@@ -151,7 +154,7 @@ static void race(work *const *runs, double *best, int count, int rounds) {
 }
 
 static void row(const char *name, work *const *runs, int count, int rounds) {
-    double best[8];
+    double best[MOST_RUNS];
     race(runs, best, count, rounds);
     printf("%-26s %9.1f", name, best[0] * 1e6);
     for (int i = 1; i < count; i++)
@@ -173,6 +176,7 @@ static void same_frames(void) {
     memset(cells, 0xAA, sizeof cells);
     ours_frame();
     memcpy(cells_kept, cells, sizeof cells);
+    same_frame(by_wrapper, "the frame by the Rust wrapper differs");
     same_frame(per_cell, "the cell by cell frame differs");
     same_frame(tuned_gcc, "the frame of stretches by gcc differs");
     same_frame(tuned_clang, "the frame of stretches by clang differs");
@@ -246,48 +250,42 @@ static void print_plate(const char *printer, const char *plate) {
     printf("%-26s %9.1f ms\n%-26s %9.1f ms, its start included\n", "the call", call[0] * 1e3, "the program", best * 1e3);
 }
 
-int main(int count, char **words) {
-    if (count != 3) die("usage: main PRINTER PLATE");
-    uint32_t x = 1986;
-    for (size_t i = 0; i < PLATE_WORDS; i++) {
-        x ^= x << 13, x ^= x >> 17, x ^= x << 5;
-        noise[i] = x;
-    }
-    char name[64];
-    static const uint32_t depths[4] = {1, 2, 4, 8};
+// ---- the tables
 
-    printf("best times in microseconds, and how many times as fast ours is as each other\n\n");
-    printf("%-26s %9s %9s %9s %9s %9s %9s %9s %9s\n", "frame", "ours us", "per cell", "tuned", "tuned", "Rust", "memset", "bytes",
-           "bytes");
-    printf("%-26s %9s %9s %9s %9s %9s %9s %9s %9s\n", "", "", "gcc", "gcc", "clang", "", "", "gcc", "clang");
-    work *const frames[] = {ours_frame, per_cell, tuned_gcc, tuned_clang, rust, set_cells, by_bytes_gcc, by_bytes_clang};
-    for (int i = 0; i < 4; i++) {
-        usual(depths[i]);
-        same_frames();
-        sprintf(name, "1024 x 312, depth %u", depths[i]);
-        row(name, frames, 8, 400);
-    }
-    for (int i = 0; i < 4; i++) {
-        largest(depths[i]);
-        same_frames();
-        sprintf(name, "2048 x 1024, depth %u", depths[i]);
-        row(name, frames, 8, 60);
-    }
-    for (int i = 0; i < 4; i++) {
-        smallest(depths[i]);
-        same_frames();
-        sprintf(name, "1024 x 1, depth %u", depths[i]);
-        row(name, frames, 8, 400);
-    }
+static const uint32_t depths[4] = {1, 2, 4, 8};
 
+static void time_frames(void) {
+    static const struct {
+        const char *name;
+        void (*set)(uint32_t depth);
+        int rounds;
+    } sizes[3] = {{"1024 x 312", usual, 400}, {"2048 x 1024", largest, 60}, {"1024 x 1", smallest, 400}};
+    work *const runs[MOST_RUNS] = {ours_frame, by_wrapper, per_cell, tuned_gcc, tuned_clang, rust, set_cells, by_bytes_gcc,
+                                   by_bytes_clang};
+    printf("%-26s %9s %9s %9s %9s %9s %9s %9s %9s %9s\n", "frame", "ours us", "ours by", "per cell", "tuned", "tuned", "Rust",
+           "memset", "bytes", "bytes");
+    printf("%-26s %9s %9s %9s %9s %9s %9s %9s %9s %9s\n", "", "", "wrapper", "gcc", "gcc", "clang", "", "", "gcc", "clang");
+    for (int size = 0; size < 3; size++)
+        for (int i = 0; i < 4; i++) {
+            char name[64];
+            sprintf(name, "%s, depth %u", sizes[size].name, depths[i]);
+            sizes[size].set(depths[i]);
+            same_frames();
+            row(name, runs, MOST_RUNS, sizes[size].rounds);
+        }
+}
+
+static void time_marks(void) {
     printf("\n%-26s %9s %9s %9s\n", "marks", "ours us", "our frame", "per cell");
-    work *const counts[] = {ours_marks, ours_frame, count_cells};
     for (int i = 0; i < 4; i++) {
-        usual(depths[i]);
+        char name[64];
         sprintf(name, "1024 x 312, depth %u", depths[i]);
-        row(name, counts, 3, 400);
+        usual(depths[i]);
+        row(name, (work *const[]){ours_marks, ours_frame, count_cells}, 3, 400);
     }
+}
 
+static void time_sound(void) {
     register_count = 0;
     for (uint32_t i = 0; i < 8; i++) put(0x60 + 4 * i, stereo[(i + 7) % 8] = i < 7 ? i + 1 : 4);
     put(0xC0, 99);
@@ -296,7 +294,9 @@ int main(int count, char **words) {
     same_sound(loop_sound_clang);
     printf("\n%-26s %9s %9s %9s\n", "sound", "ours us", "loop gcc", "clang");
     row("65,536 bytes", (work *const[]){ours_sound, loop_sound_gcc, loop_sound_clang}, 3, 400);
+}
 
+static void time_plates(void) {
     ours_write();
     if (length != PLATE) die("the plate has another length");
     memcpy(file, file_out, PLATE);
@@ -313,6 +313,19 @@ int main(int count, char **words) {
     printf("\n%-26s %9s %9s %9s %9s\n", "plates of 4,194,304 bytes", "ours us", "loop gcc", "clang", "memcpy");
     row("copy out", (work *const[]){ours_copy, loop_copy_gcc, loop_copy_clang, mem_copy}, 4, 200);
     row("write", (work *const[]){ours_write, loop_put_gcc, loop_put_clang, mem_put}, 4, 200);
+}
 
+int main(int count, char **words) {
+    if (count != 3) die("usage: main PRINTER PLATE");
+    uint32_t x = 1986;
+    for (size_t i = 0; i < PLATE_WORDS; i++) {
+        x ^= x << 13, x ^= x >> 17, x ^= x << 5;
+        noise[i] = x;
+    }
+    printf("best times in microseconds, and how many times as fast ours is as each other\n\n");
+    time_frames();
+    time_marks();
+    time_sound();
+    time_plates();
     print_plate(words[1], words[2]);
 }

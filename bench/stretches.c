@@ -1,10 +1,6 @@
 // A frame by stretches, as ours is painted: no cell twice but for the cursor's, the display by whole words through a
 // table of cells, depth 1 by a choice of two.
-#include "bench.h"
-
-static void fill(uint16_t *restrict out, uint32_t from, uint32_t to, uint16_t cell) {
-    for (uint32_t x = from; x < to; x++) out[x] = cell;
-}
+#include "paint.h"
 
 // The pixels of a raster's words, d bits each; d is a literal where this is called.
 static inline void words(uint16_t *restrict out, const uint32_t *restrict video, uint32_t count, uint32_t d,
@@ -37,15 +33,6 @@ static void shown(uint16_t *restrict out, const uint32_t *restrict video, uint32
     else if (d == 4) words(out, video, count, 4, table);
     else if (d == 2) words(out, video, count, 2, table);
     else bit_words(out, video, count, table[0], table[1]);
-}
-
-static void cover(const struct picture *restrict p, uint32_t y, uint16_t *restrict out) {
-    if (!p->cursor || y < p->vcs || y >= p->vce || y < p->vbs || y >= p->vbe) return;
-    const uint32_t *restrict shape = p->shape + 2 * (y - p->vcs);
-    for (uint32_t i = 0; i < 32; i++) {
-        uint32_t x = p->cx + i, pair = shape[i / 16] >> 2 * (i % 16) & 3;
-        if (pair && p->bs <= x && x < p->be) out[x] = 6 * 8192 + p->pens[pair - 1];
-    }
 }
 
 void BY(stretches)(const struct picture *restrict p, uint16_t *restrict out) {

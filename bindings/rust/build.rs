@@ -3,11 +3,17 @@
 use std::env;
 use std::path::Path;
 
+const MISSING: &str =
+    "VOMBELISHI_LIB_DIR must name the directory of libc_calls.a (`rt staticlib c_calls` makes it)";
+
 fn main() {
-    println!("cargo:rerun-if-env-changed=VOMBELISHI_LIB_DIR");
-    let folder = env::var_os("VOMBELISHI_LIB_DIR").expect("VOMBELISHI_LIB_DIR names the directory of libc_calls.a");
-    let folder = Path::new(&folder).canonicalize().expect("VOMBELISHI_LIB_DIR is no directory");
-    println!("cargo:rerun-if-changed={}", folder.join("libc_calls.a").display());
-    println!("cargo:rustc-link-search=native={}", folder.display());
-    println!("cargo:rustc-link-lib=static=c_calls");
+    println!("cargo::rerun-if-env-changed=VOMBELISHI_LIB_DIR");
+    let folder = env::var_os("VOMBELISHI_LIB_DIR").and_then(|name| Path::new(&name).canonicalize().ok());
+    let Some(folder) = folder.filter(|folder| folder.join("libc_calls.a").exists()) else {
+        println!("cargo::error={MISSING}");
+        return;
+    };
+    println!("cargo::rerun-if-changed={}", folder.join("libc_calls.a").display());
+    println!("cargo::rustc-link-search=native={}", folder.display());
+    println!("cargo::rustc-link-lib=static=c_calls");
 }

@@ -1,4 +1,7 @@
 //! The C calls of include/vombelishi.h: each slice is a pointer and its length in elements.
+//!
+//! Why handing over slices is safe: a call reads and writes within the given lengths only; it keeps no pointer; a slice
+//! that it writes overlaps no other, since Rust lends it mutably; and the pointer of an empty slice is not null.
 
 #[rustfmt::skip] // a pointer and its length on one line
 extern "C" {

@@ -3,38 +3,79 @@
 use crate::calls::*;
 use crate::refusal::{answer, Refusal};
 
+/// The longest text that [`text`] can give: 1,025 lines of at most 8,256 bytes.
+pub const MOST_TEXT: usize = 1025 * 8256;
+
 /// The byte at which each section and the trailer start, and the trailer's four distances in words.
 #[derive(Clone, Copy, Debug, PartialEq, Eq)]
 pub struct Places {
+    /// The byte at which the register words start: 0.
     pub registers: usize,
+    /// The byte at which the video words start.
     pub video: usize,
+    /// The byte at which the cursor words start.
     pub cursor: usize,
+    /// The byte at which the sound words start.
     pub sound: usize,
+    /// The byte at which the trailer starts.
     pub trailer: usize,
+    /// R, from the trailer back to the register words: all words before the trailer.
     pub r: usize,
+    /// V, from the trailer back to the video words.
     pub v: usize,
+    /// C, from the trailer back to the cursor words.
     pub c: usize,
+    /// S, from the trailer back to the sound words.
     pub s: usize,
 }
 
-/// 14.
+impl Places {
+    /// How many numbers the C call writes.
+    const NUMBERS: usize = 9;
+
+    /// Registers, video, cursor and sound: the R words that [`copy`] gives, cut at the section starts.
+    ///
+    /// # Panics
+    /// If there are fewer than R words.
+    pub fn sections<'w>(&self, words: &'w [u32]) -> [&'w [u32]; 4] {
+        let starts = [self.registers, self.video, self.cursor, self.sound, self.trailer].map(|byte| byte / 4);
+        [0, 1, 2, 3].map(|i| &words[starts[i]..starts[i + 1]])
+    }
+}
+
+/// Judges a plate file. Refusal: 14.
 pub fn read(file: &[u8]) -> Result<Places, Refusal> {
-    let mut places = [0; 9];
-    answer(unsafe { vom_read(file.as_ptr(), file.len(), places.as_mut_ptr(), places.len()) })?;
+    let mut places = [0; Places::NUMBERS];
+    read_into(file, &mut places)?;
     let [registers, video, cursor, sound, trailer, r, v, c, s] = places.map(|n| n as usize);
     Ok(Places { registers, video, cursor, sound, trailer, r, v, c, s })
 }
 
-/// All words before the trailer, in order: 14, 13.
+/// As [`read`], the nine numbers of [`Places`], in its order, at the start of `places`. Refusals: 14, 13.
+pub fn read_into(file: &[u8], places: &mut [u64]) -> Result<(), Refusal> {
+    // SAFETY: see `calls`.
+    answer(unsafe { vom_read(file.as_ptr(), file.len(), places.as_mut_ptr(), places.len()) })
+}
+
+/// Copies out all words before the trailer, in order: the R that [`read`] tells. Refusals: 14, 13.
 pub fn copy(file: &[u8], words: &mut [u32]) -> Result<(), Refusal> {
+    // SAFETY: see `calls`.
     answer(unsafe { vom_copy(file.as_ptr(), file.len(), words.as_mut_ptr(), words.len()) })
 }
 
-/// A plate of registers, video, cursor and sound, and its length in bytes: 15, 13.
-#[rustfmt::skip] // a pointer and its length on one line
+/// Writes a plate of registers, video, cursor and sound, and tells its length: 4 bytes for each word, and 16.
+/// Refusals: 15, 13.
 pub fn write(sections: [&[u32]; 4], out: &mut [u8]) -> Result<usize, Refusal> {
-    let [registers, video, cursor, sound] = sections;
     let mut size = [0];
+    write_into(sections, out, &mut size)?;
+    Ok(size[0] as usize)
+}
+
+/// As [`write()`], the length at the start of `size`. Refusals: 15, 13.
+#[rustfmt::skip] // a pointer and its length on one line
+pub fn write_into(sections: [&[u32]; 4], out: &mut [u8], size: &mut [u64]) -> Result<(), Refusal> {
+    let [registers, video, cursor, sound] = sections;
+    // SAFETY: see `calls`.
     answer(unsafe {
         vom_write(
             registers.as_ptr(), registers.len(),
@@ -44,20 +85,26 @@ pub fn write(sections: [&[u32]; 4], out: &mut [u8]) -> Result<usize, Refusal> {
             out.as_mut_ptr(), out.len(),
             size.as_mut_ptr(), size.len(),
         )
-    })?;
+    })
+}
+
+/// Writes the run printer's text of a plate file and tells its length, [`MOST_TEXT`] at most. A refused plate has a
+/// text too: the line `refused NUMBER DETAIL`. Refusal: 13.
+pub fn text(file: &[u8], text: &mut [u8]) -> Result<usize, Refusal> {
+    let mut size = [0];
+    text_into(file, text, &mut size)?;
     Ok(size[0] as usize)
 }
 
-/// The run printer's text, of a refused plate too, and its length: 13.
-#[rustfmt::skip]
-pub fn text(file: &[u8], text: &mut [u8]) -> Result<usize, Refusal> {
-    let mut size = [0];
+/// As [`text`], the length at the start of `size`. Refusal: 13.
+#[rustfmt::skip] // a pointer and its length on one line
+pub fn text_into(file: &[u8], text: &mut [u8], size: &mut [u64]) -> Result<(), Refusal> {
+    // SAFETY: see `calls`.
     answer(unsafe {
         vom_text(
             file.as_ptr(), file.len(),
             text.as_mut_ptr(), text.len(),
             size.as_mut_ptr(), size.len(),
         )
-    })?;
-    Ok(size[0] as usize)
+    })
 }

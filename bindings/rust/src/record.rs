@@ -3,12 +3,16 @@
 use crate::calls::*;
 use crate::refusal::{answer, Refusal};
 use crate::setting::Setting;
-use std::ops::Range;
 
-/// Each register's data and whether it was written (not 0), at its address / 4.
+/// Each register's data and whether it was written, at its address / 4.
+///
+/// A record filled by hand is judged like any other: of a value the low 24 bits count, and what stands at the 18
+/// reserved addresses is never read.
 #[derive(Clone, Debug, PartialEq, Eq)]
 pub struct Record {
+    /// Each register's data.
     pub values: [u32; 64],
+    /// Not 0 where the register was written.
     pub written: [u8; 64],
 }
 
@@ -25,34 +29,54 @@ impl Record {
         Record { values: [0; 64], written: [0; 64] }
     }
 
-    /// Applies register words, in order, or none: 1, 2.
+    /// Applies register words, in order; on a refusal none. Refusals: 1, 2.
     pub fn load(&mut self, words: &[u32]) -> Result<(), Refusal> {
+        // SAFETY: see `calls`.
         answer(unsafe {
-            vom_load(self.values.as_mut_ptr(), 64, self.written.as_mut_ptr(), 64, words.as_ptr(), words.len())
+            vom_load(
+                self.values.as_mut_ptr(), 64,
+                self.written.as_mut_ptr(), 64,
+                words.as_ptr(), words.len(),
+            )
         })
     }
 
-    /// Applies one word: 2.
+    /// Applies one register word. Refusal: 2, with detail 0.
     pub fn load_word(&mut self, word: u32) -> Result<(), Refusal> {
+        // SAFETY: see `calls`.
         answer(unsafe { vom_load_word(self.values.as_mut_ptr(), 64, self.written.as_mut_ptr(), 64, word) })
     }
 
-    /// The setting, or 3 to 9.
+    /// Judges the record for pictures. Refusals: 3 to 9.
     pub fn check(&self) -> Result<Setting, Refusal> {
-        let mut numbers = [0; 21];
-        answer(unsafe {
-            vom_check(self.values.as_ptr(), 64, self.written.as_ptr(), 64, numbers.as_mut_ptr(), numbers.len())
-        })?;
+        let mut numbers = [0; Setting::NUMBERS];
+        self.check_into(&mut numbers)?;
         Ok(Setting::of(numbers))
     }
 
-    /// Whether sound may be played: 3, 10.
+    /// As [`Record::check`], the 21 numbers of [`Setting`], in its order, at the start of `setting`; what is on is 1,
+    /// what is off 0. Refusals: 3 to 9, 13.
+    pub fn check_into(&self, setting: &mut [u32]) -> Result<(), Refusal> {
+        // SAFETY: see `calls`.
+        answer(unsafe {
+            vom_check(
+                self.values.as_ptr(), 64,
+                self.written.as_ptr(), 64,
+                setting.as_mut_ptr(), setting.len(),
+            )
+        })
+    }
+
+    /// Judges the record for sound. Refusals: 3, 10.
     pub fn check_sound(&self) -> Result<(), Refusal> {
+        // SAFETY: see `calls`.
         answer(unsafe { vom_check_sound(self.values.as_ptr(), 64, self.written.as_ptr(), 64) })
     }
 
-    /// The first N · V cells: 3 to 9, 11, 13.
+    /// Paints a frame: N * V cells at the start of `cells`, raster after raster, each its code * 8192 + its 13-bit
+    /// colour. Refusals: 3 to 9, 11, 13.
     pub fn frame(&self, video: &[u32], cursor: &[u32], cells: &mut [u16]) -> Result<(), Refusal> {
+        // SAFETY: see `calls`.
         answer(unsafe {
             vom_frame(
                 self.values.as_ptr(), 64,
@@ -64,8 +88,9 @@ impl Record {
         })
     }
 
-    /// The N cells of raster y: 3 to 9, 11, 12, 13.
+    /// Paints raster `y` of that frame: N cells at the start of `cells`. Refusals: 3 to 9, 11, 12, 13.
     pub fn raster(&self, video: &[u32], cursor: &[u32], y: u16, cells: &mut [u16]) -> Result<(), Refusal> {
+        // SAFETY: see `calls`.
         answer(unsafe {
             vom_raster(
                 self.values.as_ptr(), 64,
@@ -78,9 +103,20 @@ impl Record {
         })
     }
 
-    /// Where the words of raster y stand in the list: 3 to 9, 11, 12.
-    pub fn raster_words(&self, video: &[u32], y: u16) -> Result<Range<usize>, Refusal> {
+    /// The words of raster `y`, as that stretch of `video` itself; empty where the raster is not displayed.
+    /// Refusals: 3 to 9, 11 (for the video words alone), 12.
+    pub fn raster_words<'v>(&self, video: &'v [u32], y: u16) -> Result<&'v [u32], Refusal> {
         let mut place = [0; 2];
+        self.raster_words_into(video, y, &mut place)?;
+        let [first, count] = place.map(|n| n as usize);
+        Ok(&video[first..first + count])
+    }
+
+    /// As [`Record::raster_words`], the index of the first word and how many there are at the start of `place`: 0 and
+    /// 0 where the raster is not displayed, and also where the call is refused, if `place` has room for both.
+    /// Refusals: 3 to 9, 11, 12, 13.
+    pub fn raster_words_into(&self, video: &[u32], y: u16, place: &mut [u64]) -> Result<(), Refusal> {
+        // SAFETY: see `calls`.
         answer(unsafe {
             vom_raster_words(
                 self.values.as_ptr(), 64,
@@ -89,14 +125,19 @@ impl Record {
                 y,
                 place.as_mut_ptr(), place.len(),
             )
-        })?;
-        let [start, count] = place.map(|n| n as usize);
-        Ok(start..start + count)
+        })
     }
 
-    /// The mark count: 3 to 9, 11.
+    /// Counts the display cells (code 5) of the frame whose grey is at or above the threshold. Refusals: 3 to 9, 11.
     pub fn marks(&self, video: &[u32], cursor: &[u32], threshold: u8) -> Result<u64, Refusal> {
         let mut count = [0];
+        self.marks_into(video, cursor, threshold, &mut count)?;
+        Ok(count[0])
+    }
+
+    /// As [`Record::marks`], the count at the start of `count`. Refusals: 3 to 9, 11, 13.
+    pub fn marks_into(&self, video: &[u32], cursor: &[u32], threshold: u8, count: &mut [u64]) -> Result<(), Refusal> {
+        // SAFETY: see `calls`.
         answer(unsafe {
             vom_marks(
                 self.values.as_ptr(), 64,
@@ -106,18 +147,31 @@ impl Record {
                 threshold,
                 count.as_mut_ptr(), count.len(),
             )
-        })?;
-        Ok(count[0])
+        })
     }
 
-    /// The 13-bit colour of a logical pixel.
+    /// The 13-bit colour that a logical pixel shows: by the palette entry `pixel` % 16, and at depth 8 by the pixel's
+    /// high bits too; at any other depth the entry itself.
     pub fn colour(&self, depth: u8, pixel: u8) -> u16 {
+        // SAFETY: see `calls`.
         unsafe { vom_colour(self.values.as_ptr(), 64, self.written.as_ptr(), 64, depth, pixel) }
     }
 
-    /// 8 values for each word, and the counter after the last byte: 3, 10, 13.
+    /// Plays words, four bytes each, low first: for each byte a left and a right value in signed sixths, 8 values for
+    /// each word at the start of `out`. Takes the byte counter before the first byte and tells it after the last.
+    /// Refusals: 3, 10, 13.
     pub fn sound(&self, words: &[u32], counter: u32, out: &mut [i16]) -> Result<u32, Refusal> {
         let mut after = [counter];
+        self.sound_into(words, counter, out, &mut after)?;
+        Ok(after[0])
+    }
+
+    /// As [`Record::sound`], the counter at the start of `after`: where the call is refused, as it came, if `after` has
+    /// room. Refusals: 3, 10, 13.
+    pub fn sound_into(
+        &self, words: &[u32], counter: u32, out: &mut [i16], after: &mut [u32],
+    ) -> Result<(), Refusal> {
+        // SAFETY: see `calls`.
         answer(unsafe {
             vom_sound(
                 self.values.as_ptr(), 64,
@@ -127,7 +181,6 @@ impl Record {
                 out.as_mut_ptr(), out.len(),
                 after.as_mut_ptr(), after.len(),
             )
-        })?;
-        Ok(after[0])
+        })
     }
 }

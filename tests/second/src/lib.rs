@@ -20,10 +20,5 @@ pub mod sound;
 pub mod sound_judge;
 pub mod text;
 
-#[cfg(against)]
-pub mod compare;
-#[cfg(against)]
-pub mod ours;
-
 #[cfg(test)]
 mod paper_tests;

@@ -1,7 +1,7 @@
 //! Lent memory: it carries a pattern beforehand, with a guard before and behind the lent
 //! part, and all of it is compared afterwards.
 
-use super::random::Random;
+use crate::random::Random;
 use std::fmt::Debug;
 
 const GUARD: usize = 16;
@@ -22,6 +22,7 @@ macro_rules! pattern {
 
 pattern!(u8, u16, i16, u32, u64);
 
+#[derive(Clone)]
 pub struct Lent<T> {
     seed: u64,
     all: Vec<T>,

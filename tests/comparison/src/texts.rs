@@ -1,15 +1,14 @@
 //! The printer's text, by the library's call.
 
-use super::bench::Bench;
-use super::judged::Judged;
-use super::lent::Lent;
-use super::make_plate::picture_file;
-use super::make_record::{small_or_wide, FULL, MIDDLING, TALL, WIDE};
-use super::random::Random;
-use super::show;
-use crate::ours;
-use crate::refusal::{refuse_if, Refusal, BUFFER_SHORT};
-use crate::text::{picture, text};
+use crate::bench::Bench;
+use crate::judged::Judged;
+use crate::make_plate::picture_file;
+use crate::make_record::{small_or_wide, FULL, MIDDLING, TALL, WIDE};
+use crate::random::Random;
+use crate::show;
+use second::refusal::{refuse_if, Refusal, BUFFER_SHORT};
+use second::text::{picture, text};
+use vombelishi::plate as library;
 
 pub fn text_round(bench: &mut Bench, random: &mut Random) {
     let size = small_or_wide(random);
@@ -37,12 +36,13 @@ fn compare_text(bench: &mut Bench, random: &mut Random, file: &[u8]) {
     let lines = text(file);
     let length = lent_for(random, lines.len());
     let expected = refuse_if(length < lines.len(), BUFFER_SHORT).map(|()| lines.as_bytes());
-    let (mut out, mut told_length) = (Lent::<u8>::new(random, length), Lent::<u64>::new(random, 1));
-    let told = ours::text(file, out.lend(), told_length.lend());
-    let mut judged = Judged::answer(&expected, told);
-    let bytes = expected.iter().map(|text| text.len() as u64).collect::<Vec<_>>();
-    judged.memory("length", &told_length, &bytes);
-    judged.memory("text", &out, expected.unwrap_or_default());
+    let mut judged = Judged::bytes(
+        random,
+        expected,
+        length,
+        |out, size| library::text_into(file, out, size),
+        |out| library::text(file, out),
+    );
     judged.refused = counted_as(file, expected.err());
     bench.see("text of 1,025 lines", lines.lines().count() == 1025);
     let long_run = lines.split_whitespace().any(|run| run.len() >= "2x1000".len());

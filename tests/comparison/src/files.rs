@@ -1,13 +1,14 @@
 //! Reading, copying out and writing plate files.
 
-use super::bench::Bench;
-use super::judged::Judged;
-use super::lent::{lent_length, Lent};
-use super::make_plate::{right_file, section_counts, spoil_file};
-use super::random::Random;
-use super::show;
+use crate::bench::Bench;
+use crate::judged::Judged;
+use crate::lent::{lent_length, Lent};
+use crate::make_plate::{right_file, section_counts, spoil_file};
 use crate::ours;
-use crate::plate::{self, MOST_BYTES};
+use crate::random::Random;
+use crate::show;
+use second::plate::{self, MOST_BYTES};
+use vombelishi::plate as library;
 
 pub fn file_round(bench: &mut Bench, random: &mut Random) {
     let mut file = right_file(random, 12);
@@ -34,8 +35,8 @@ pub fn long_file_round(bench: &mut Bench, random: &mut Random) {
 fn compare_read(bench: &mut Bench, random: &mut Random, file: &[u8]) {
     let expected = plate::read(file);
     let mut lent: Lent<u64> = Lent::new(random, 9);
-    let told = ours::read(file, lent.lend());
-    let mut judged = Judged::answer(&expected, told);
+    let mut judged = Judged::answer(&expected, library::read_into(file, lent.lend()));
+    judged.returned(expected.map(ours::places), library::read(file));
     let numbers = expected.map(|t| t.nine_numbers()).unwrap_or_default();
     judged.memory("places", &lent, &numbers);
     bench.see("file of 16 bytes read", file.len() == 16 && !numbers.is_empty());
@@ -65,8 +66,7 @@ fn compare_copy(bench: &mut Bench, random: &mut Random, file: &[u8]) {
     let length = lent_length(random, needed);
     let expected = plate::copy(file, length);
     let mut lent: Lent<u32> = Lent::new(random, length);
-    let told = ours::copy(file, lent.lend());
-    let mut judged = Judged::answer(&expected, told);
+    let mut judged = Judged::answer(&expected, library::copy(file, lent.lend()));
     judged.memory("words", &lent, expected.as_deref().unwrap_or_default());
     bench.count("copy", judged, || format!("file {}\nbuffer of {length} words", show::list(file)));
 }
@@ -93,14 +93,16 @@ fn compare_write(bench: &mut Bench, random: &mut Random, sections: [&[u32]; 4]) 
     let words: usize = sections.iter().map(|section| section.len()).sum();
     let length = lent_length(random, 4 * words + 16);
     let expected = plate::write(registers, video, cursor, sound, length);
-    let (mut out, mut told_length) = (Lent::<u8>::new(random, length), Lent::<u64>::new(random, 1));
-    let told = ours::write(sections, out.lend(), told_length.lend());
-    let mut judged = Judged::answer(&expected, told);
-    let bytes = expected.iter().map(|file| file.len() as u64).collect::<Vec<_>>();
-    judged.memory("length", &told_length, &bytes);
-    judged.memory("bytes", &out, expected.as_deref().unwrap_or_default());
-    bench.see("file of 4,194,304 bytes written", bytes == [4_194_304]);
-    bench.see("file of 16 bytes written", bytes == [16]);
+    let judged = Judged::bytes(
+        random,
+        expected.as_deref().map_err(|refusal| *refusal),
+        length,
+        |out, size| library::write_into(sections, out, size),
+        |out| library::write(sections, out),
+    );
+    let bytes = expected.map_or(0, |file| file.len());
+    bench.see("file of 4,194,304 bytes written", bytes == 4_194_304);
+    bench.see("file of 16 bytes written", bytes == 16);
     bench.count("write", judged, || {
         format!("sections {}\nbuffer of {length} bytes", sections.map(show::list).join("\nand "))
     });

@@ -1,15 +1,16 @@
 //! Frames, rasters, the words of a raster, marks; colour, grey and the pin.
 
-use super::bench::Bench;
-use super::judged::Judged;
-use super::lent::{lent_length, Lent};
-use super::make_record::{ground, small_or_wide};
-use super::make_scene::{scene, Scene};
-use super::random::Random;
-use super::show;
-use crate::cell::code;
-use crate::setting::{self, Setting};
-use crate::{colour, frame, grey, marks, ours, pin, raster, raster_words};
+use crate::bench::Bench;
+use crate::judged::Judged;
+use crate::lent::{lent_length, Lent};
+use crate::make_record::{ground, small_or_wide};
+use crate::make_scene::{scene, Scene};
+use crate::ours;
+use crate::random::Random;
+use crate::show;
+use second::cell::code;
+use second::setting::{self, Setting};
+use second::{colour, frame, grey, marks, pin, raster, raster_words};
 
 pub fn frame_round(bench: &mut Bench, random: &mut Random) {
     let size = small_or_wide(random);
@@ -23,7 +24,7 @@ pub fn compare_frame(bench: &mut Bench, random: &mut Random, scene: &Scene) {
     let length = lent_length(random, needed);
     let expected = frame::frame(record, video, cursor, length);
     let mut lent: Lent<u16> = Lent::new(random, length);
-    let told = ours::frame(record, video, cursor, lent.lend());
+    let told = ours::record(record).frame(video, cursor, lent.lend());
     let mut judged = Judged::answer(&expected, told);
     judged.memory("cells", &lent, expected.as_deref().unwrap_or_default());
     if let (Ok(s), Ok(cells)) = (setting::check(record), &expected) {
@@ -84,7 +85,7 @@ pub fn compare_raster(bench: &mut Bench, random: &mut Random, scene: &Scene, y: 
     let length = lent_length(random, needed);
     let expected = raster::raster(record, video, cursor, y, length);
     let mut lent: Lent<u16> = Lent::new(random, length);
-    let told = ours::raster(record, video, cursor, y, lent.lend());
+    let told = ours::record(record).raster(video, cursor, y, lent.lend());
     let mut judged = Judged::answer(&expected, told);
     judged.memory("cells", &lent, expected.as_deref().unwrap_or_default());
     bench.count("raster", judged, || format!("{}\nraster {y}\nbuffer of {length} cells", scene.show()));
@@ -92,10 +93,16 @@ pub fn compare_raster(bench: &mut Bench, random: &mut Random, scene: &Scene, y: 
 
 /// A refusal gives an empty stretch too: 0 long, from 0.
 pub fn compare_raster_words(bench: &mut Bench, random: &mut Random, scene: &Scene, y: u16) {
-    let expected = raster_words::raster_words(&scene.record, &scene.video, y);
+    let Scene { record, video, .. } = scene;
+    let expected = raster_words::raster_words(record, video, y);
     let mut lent: Lent<u64> = Lent::new(random, 2);
-    let told = ours::raster_words(&scene.record, &scene.video, y, lent.lend());
-    let mut judged = Judged::answer(&expected, told);
+    let given = ours::record(record);
+    let mut judged = Judged::answer(&expected, given.raster_words_into(video, y, lent.lend()));
+    let place = |words: &[u32]| words.as_ptr_range();
+    judged.returned(
+        expected.clone().map(|range| place(&video[range])),
+        given.raster_words(video, y).map(place),
+    );
     let stretch = expected.unwrap_or(0..0);
     judged.memory("start and length", &lent, &[stretch.start as u64, stretch.len() as u64]);
     bench.see("raster without words", judged.refused.is_none() && stretch.is_empty());
@@ -119,8 +126,10 @@ pub fn compare_marks(bench: &mut Bench, random: &mut Random, scene: &Scene, thre
     let Scene { record, video, cursor } = scene;
     let expected = marks::marks(record, video, cursor, threshold);
     let mut lent: Lent<u64> = Lent::new(random, 1);
-    let told = ours::marks(record, video, cursor, threshold, lent.lend());
+    let given = ours::record(record);
+    let told = given.marks_into(video, cursor, threshold, lent.lend());
     let mut judged = Judged::answer(&expected, told);
+    judged.returned(expected, given.marks(video, cursor, threshold));
     let count: Vec<u64> = expected.into_iter().collect();
     judged.memory("count", &lent, &count);
     bench.see("marks counted, not none", count.iter().any(|n| *n > 0));
@@ -130,11 +139,12 @@ pub fn compare_marks(bench: &mut Bench, random: &mut Random, scene: &Scene, thre
 /// Every logical pixel of every depth, for one record.
 pub fn colour_round(bench: &mut Bench, random: &mut Random) {
     let record = ground(random);
+    let given = ours::record(&record);
     for depth in [1u8, 2, 4, 8] {
         for pixel in 0..=((1u32 << depth) - 1) as u8 {
             let mut judged = Judged::default();
             let expected = colour::display(&record, depth.into(), pixel.into());
-            judged.same("colour", &expected, &ours::colour(&record, depth, pixel));
+            judged.same("colour", &expected, &given.colour(depth, pixel));
             bench.count("colour", judged, || {
                 format!("record {}\ndepth {depth}\npixel {pixel}", show::record(&record))
             });
@@ -146,7 +156,7 @@ pub fn colour_round(bench: &mut Bench, random: &mut Random) {
 pub fn every_grey(bench: &mut Bench, _: &mut Random) {
     for colour in 0..=u16::MAX {
         let mut judged = Judged::default();
-        judged.same("grey", &grey::grey(colour), &ours::grey(colour));
+        judged.same("grey", &grey::grey(colour), &vombelishi::grey(colour));
         bench.count("grey", judged, || format!("colour {colour:04x}"));
     }
 }
@@ -160,7 +170,7 @@ pub fn every_pin(bench: &mut Bench, random: &mut Random) {
     for control in controls {
         for code in 0..=u8::MAX {
             let mut judged = Judged::default();
-            judged.same("level", &pin::pin(code, control), &ours::pin(code, control));
+            judged.same("level", &pin::pin(code, control), &vombelishi::pin(code, control));
             bench.count("pin", judged, || format!("code {code}\ncontrol {control:08x}"));
         }
     }

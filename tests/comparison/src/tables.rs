@@ -1,7 +1,7 @@
 //! The tables at the end: each refusal and each call, how often met. What must be met and
 //! was not is a failure.
 
-use super::bench::{Bench, Row};
+use crate::bench::{Bench, Row};
 
 /// The refusals that each call can give, from the paper's orders.
 const CAN_REFUSE: [(&str, &[usize]); 12] = [

@@ -1,7 +1,7 @@
 //! Where the comparisons are counted and their differences printed.
 
-use super::judged::Judged;
-use crate::refusal::Refusal;
+use crate::judged::Judged;
+use second::refusal::Refusal;
 use std::collections::BTreeMap;
 
 /// Differences printed for each call.

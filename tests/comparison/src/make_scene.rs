@@ -1,11 +1,11 @@
 //! A record with its video and cursor words, right or spoiled.
 
-use super::damage::{damage, nudge};
-use super::make_record::{right, Size};
-use super::random::Random;
-use super::show;
-use crate::record::Record;
-use crate::setting;
+use crate::damage::{damage, nudge};
+use crate::make_record::{right, Size};
+use crate::random::Random;
+use crate::show;
+use second::record::Record;
+use second::setting;
 
 pub struct Scene {
     pub record: Record,

@@ -1,15 +1,15 @@
 //! Sound values and the pair of one byte.
 
-use super::bench::Bench;
-use super::damage::damage_sound;
-use super::judged::Judged;
-use super::lent::{lent_length, Lent};
-use super::make_record::right_for_sound;
-use super::random::Random;
-use super::show;
+use crate::bench::Bench;
+use crate::damage::damage_sound;
+use crate::judged::Judged;
+use crate::lent::{lent_length, Lent};
+use crate::make_record::right_for_sound;
 use crate::ours;
-use crate::record::Record;
-use crate::sound::{pair, sound};
+use crate::random::Random;
+use crate::show;
+use second::record::Record;
+use second::sound::{pair, sound};
 
 pub fn sound_round(bench: &mut Bench, random: &mut Random) {
     let mut record = right_for_sound(random);
@@ -35,10 +35,13 @@ fn compare_sound(bench: &mut Bench, random: &mut Random, record: &Record, words:
     let length = lent_length(random, 8 * words.len());
     let expected = sound(record, words, counter, length);
     let (mut out, mut after) = (Lent::<i16>::new(random, length), Lent::<u32>::new(random, 1));
-    let told = ours::sound(record, words, counter, out.lend(), after.lend());
+    let (given, mut again) = (ours::record(record), out.clone());
+    let told = given.sound_into(words, counter, out.lend(), after.lend());
     let mut judged = Judged::answer(&expected, told);
+    judged.returned(expected.clone().map(|(_, after)| after), given.sound(words, counter, again.lend()));
     let (values, counted) = expected.unwrap_or((Vec::new(), counter));
     judged.memory("values", &out, &values);
+    judged.memory("values beside the counter returned", &again, &values);
     judged.memory("counter afterwards", &after, &[counted]);
     bench.see("sound counter wraps", counted < counter);
     bench.count("sound", judged, || {
@@ -52,9 +55,11 @@ pub fn every_pair(bench: &mut Bench, random: &mut Random) {
     for stereo in 1..=7 {
         for byte in 0..=u8::MAX {
             let mut lent: Lent<i16> = Lent::new(random, 2);
-            let told = ours::sound_pair(byte, stereo, lent.lend());
-            let mut judged = Judged::answer(&Ok(()), told);
-            judged.memory("pair", &lent, &pair(byte, stereo));
+            let expected = pair(byte, stereo);
+            let told = vombelishi::sound_pair_into(byte, stereo, lent.lend());
+            let mut judged = Judged::answer(&Ok(expected), told);
+            judged.memory("pair", &lent, &expected);
+            judged.returned(Ok(expected), vombelishi::sound_pair(byte, stereo));
             bench.count("sound_pair", judged, || format!("byte {byte:02x}\nstereo {stereo}"));
         }
     }

@@ -1,11 +1,11 @@
 //! Ways to spoil a right record, one rule each.
 
-use super::make_record::{half_offset, put, put_value, unwrite, value};
-use super::random::Random;
-use crate::address::*;
-use crate::needed::is_needed;
-use crate::record::Record;
-use crate::setting;
+use crate::make_record::{half_offset, put, put_value, unwrite, value};
+use crate::random::Random;
+use second::address::*;
+use second::needed::is_needed;
+use second::record::Record;
+use second::setting;
 
 type Damage = fn(&mut Random, &mut Record);
 

@@ -1,6 +1,6 @@
 //! Inputs in full, for the reader of a difference.
 
-use crate::record::Record;
+use second::record::Record;
 use std::fmt::{Debug, LowerHex};
 
 const MOST_SHOWN: usize = 2000;

@@ -1,11 +1,11 @@
 //! A few large frames: long lines, many rasters, both.
 
-use super::bench::Bench;
-use super::make_record::{Size, FULL, MIDDLING, TALL, WIDE};
-use super::make_scene::{right_scene, scene};
-use super::pictures::{compare_frame, compare_marks, compare_raster, compare_raster_words};
-use super::random::Random;
-use crate::setting;
+use crate::bench::Bench;
+use crate::make_record::{Size, FULL, MIDDLING, TALL, WIDE};
+use crate::make_scene::{right_scene, scene};
+use crate::pictures::{compare_frame, compare_marks, compare_raster, compare_raster_words};
+use crate::random::Random;
+use second::setting;
 
 const SIZES: [Size; 4] = [WIDE, TALL, MIDDLING, FULL];
 

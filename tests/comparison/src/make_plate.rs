@@ -1,9 +1,9 @@
 //! Plate files: right, and wrong in length or trailer.
 
-use super::make_record::{as_words, Size};
-use super::make_scene::scene;
-use super::random::Random;
-use crate::plate::{bytes_of, write};
+use crate::make_record::{as_words, Size};
+use crate::make_scene::scene;
+use crate::random::Random;
+use second::plate::{bytes_of, write};
 
 /// A file of random sections, right in length and trailer.
 pub fn right_file(random: &mut Random, most_words: u32) -> Vec<u8> {

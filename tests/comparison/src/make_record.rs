@@ -1,10 +1,10 @@
 //! Records whose setting is right, made step by step so that each rule holds by construction.
 
-use super::random::Random;
-use crate::address::*;
-use crate::needed::is_needed;
-use crate::record::Record;
-use crate::setting;
+use crate::random::Random;
+use second::address::*;
+use second::needed::is_needed;
+use second::record::Record;
+use second::setting;
 
 /// How large a frame is wanted: a fixed last pair, a fixed last raster, or neither.
 #[derive(Clone, Copy)]

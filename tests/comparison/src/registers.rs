@@ -1,19 +1,19 @@
 //! Loading and the two checks.
 
-use super::bench::Bench;
-use super::damage::{damage, damage_sound, nudge};
-use super::judged::Judged;
-use super::lent::Lent;
-use super::make_record::*;
-use super::random::Random;
-use super::show;
-use crate::address::{is_reserved, VCER, VCSR};
-use crate::load::load;
-use crate::ours::{self, Raw};
-use crate::record::{load_word, Record};
-use crate::refusal::Refusal;
-use crate::setting;
-use crate::sound_judge;
+use crate::bench::Bench;
+use crate::damage::{damage, damage_sound, nudge};
+use crate::judged::Judged;
+use crate::lent::Lent;
+use crate::make_record::*;
+use crate::ours;
+use crate::random::Random;
+use crate::show;
+use second::address::{is_reserved, VCER, VCSR};
+use second::load::load;
+use second::record::{load_word, Record};
+use second::refusal::Refusal;
+use second::setting;
+use second::sound_judge;
 
 pub fn load_round(bench: &mut Bench, random: &mut Random) {
     let record = ground(random);
@@ -67,18 +67,18 @@ fn set_reserved(random: &mut Random, words: &mut [u32]) {
 
 pub fn compare_load(bench: &mut Bench, record: &Record, words: &[u32]) {
     let expected = load(record, words);
-    let mut raw = Raw::from(record);
-    let told = ours::load(&mut raw, words);
-    let judged = judge_record(record, &expected, told, &raw);
+    let mut after = ours::record(record);
+    let told = after.load(words);
+    let judged = judge_record(record, &expected, told, &after);
     bench.see("record given with bits above 23", record.values.iter().any(|v| *v >= 1 << 24));
     bench.count("load", judged, || format!("record {}\nwords {}", show::record(record), show::list(words)));
 }
 
 fn compare_load_word(bench: &mut Bench, record: &Record, word: u32) {
     let expected = load_word(record, word);
-    let mut raw = Raw::from(record);
-    let told = ours::load_word(&mut raw, word);
-    let judged = judge_record(record, &expected, told, &raw);
+    let mut after = ours::record(record);
+    let told = after.load_word(word);
+    let judged = judge_record(record, &expected, told, &after);
     bench.count("load_word", judged, || format!("record {}\nword {word:08x}", show::record(record)));
 }
 
@@ -86,11 +86,11 @@ fn compare_load_word(bench: &mut Bench, record: &Record, word: u32) {
 fn judge_record(
     before: &Record,
     expected: &Result<Record, Refusal>,
-    told: ours::Answer,
-    after: &Raw,
+    told: Result<(), vombelishi::Refusal>,
+    after: &vombelishi::Record,
 ) -> Judged {
     let mut judged = Judged::answer(expected, told);
-    let right = Raw::from(expected.as_ref().unwrap_or(before));
+    let right = ours::record(expected.as_ref().unwrap_or(before));
     judged.same("record", &right, after);
     judged
 }
@@ -114,10 +114,11 @@ pub fn check_round(bench: &mut Bench, random: &mut Random) {
 fn compare_check(bench: &mut Bench, random: &mut Random, record: &Record) {
     let expected = setting::check(record);
     let mut lent: Lent<u32> = Lent::new(random, 21);
-    let told = ours::check(record, lent.lend());
-    let mut judged = Judged::answer(&expected, told);
+    let given = ours::record(record);
+    let mut judged = Judged::answer(&expected, given.check_into(lent.lend()));
     let numbers = expected.as_ref().map(|s| s.numbers().to_vec()).unwrap_or_default();
     judged.memory("setting", &lent, &numbers);
+    judged.returned(expected.clone().map(ours::setting), given.check());
     if let Ok(s) = &expected {
         let half = record.is_written(VCSR) != record.is_written(VCER);
         bench.see("setting with the cursor half written", half);
@@ -137,6 +138,6 @@ pub fn check_sound_round(bench: &mut Bench, random: &mut Random) {
 
 fn compare_check_sound(bench: &mut Bench, record: &Record) {
     let expected = sound_judge::check_sound(record);
-    let judged = Judged::answer(&expected, ours::check_sound(record));
+    let judged = Judged::answer(&expected, ours::record(record).check_sound());
     bench.count("check_sound", judged, || format!("record {}", show::record(record)));
 }

@@ -1,12 +1,12 @@
 //! The printer as a program: plates on its standard input, its text compared.
 
-use super::bench::Bench;
-use super::judged::Judged;
-use super::make_plate::picture_file;
-use super::make_record::{MIDDLING, SMALL, TALL, WIDE};
-use super::random::Random;
-use super::show;
-use crate::text::{picture, text};
+use crate::bench::Bench;
+use crate::judged::Judged;
+use crate::make_plate::picture_file;
+use crate::make_record::{MIDDLING, SMALL, TALL, WIDE};
+use crate::random::Random;
+use crate::show;
+use second::text::{picture, text};
 use std::io::{self, Write};
 use std::process::{Child, Command, Stdio};
 use std::thread;

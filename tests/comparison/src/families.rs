@@ -1,8 +1,8 @@
 //! The families of comparisons and how often each has its turn.
 
-use super::bench::Bench;
-use super::random::Random;
-use super::{files, large, pictures, registers, sounds, texts};
+use crate::bench::Bench;
+use crate::random::Random;
+use crate::{files, large, pictures, registers, sounds, texts};
 
 pub struct Family {
     pub name: &'static str,

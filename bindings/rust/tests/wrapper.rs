@@ -1,0 +1,97 @@
+//! The wrapper as a user meets it: the small plate from file to cells, memory that is too short, what refusals say.
+
+use vombelishi::plate::{self, Places};
+use vombelishi::{sound_pair_into, Record, Refusal};
+
+const SMALL: &[u8] = include_bytes!("../../../samples/small.plate");
+const SHORT: Result<(), Refusal> = Err(Refusal { number: 13, detail: 0 });
+
+/// The small plate's words, and where its sections lie.
+fn small() -> (Places, Vec<u32>) {
+    let places = plate::read(SMALL).unwrap();
+    let mut words = vec![0; places.r];
+    plate::copy(SMALL, &mut words).unwrap();
+    (places, words)
+}
+
+fn loaded(registers: &[u32]) -> Record {
+    let mut record = Record::new();
+    record.load(registers).unwrap();
+    record
+}
+
+#[test]
+fn the_small_plate() {
+    let (places, words) = small();
+    let [registers, video, cursor, sound] = places.sections(&words);
+    assert_eq!([registers.len(), video.len(), cursor.len(), sound.len()], [30, 1, 0, 0]);
+    let record = loaded(registers);
+    let setting = record.check().unwrap();
+    assert_eq!((setting.n, setting.v, setting.depth, setting.display_on), (32, 6, 4, true));
+    let mut cells = vec![7; 6 * 32 + 1];
+    record.frame(video, cursor, &mut cells).unwrap();
+    assert_eq!(cells[3 * 32 + 11..3 * 32 + 19], [40960, 40961, 40962, 40963, 40964, 40965, 40966, 40967]);
+    assert_eq!(cells[6 * 32], 7);
+    assert_eq!(record.raster_words(video, 3), Ok(video));
+    assert_eq!(record.raster_words(video, 2), Ok(&[][..]));
+    assert_eq!(record.marks(video, cursor, 128), Ok(0));
+}
+
+#[test]
+fn the_small_plate_written_again() {
+    let (places, words) = small();
+    let mut out = [7; 141];
+    assert_eq!(plate::write(places.sections(&words), &mut out), Ok(140));
+    assert_eq!((&out[..140], out[140]), (SMALL, 7));
+}
+
+#[test]
+fn the_small_plate_as_text() {
+    let mut text = vec![0; plate::MOST_TEXT];
+    let size = plate::text(SMALL, &mut text).unwrap();
+    assert!(text[..size].starts_with(b"frame 32 6 words 1 marks 0\n3x4 2x28\n"));
+}
+
+/// Lends one place too few, and sees that what is there stays.
+fn short<T: Copy + PartialEq + From<u8>>(needed: usize, call: impl Fn(&mut [T]) -> Result<(), Refusal>) {
+    let mut lent = vec![T::from(7); needed - 1];
+    assert_eq!(call(&mut lent), SHORT);
+    assert!(lent.iter().all(|item| *item == T::from(7)));
+}
+
+#[test]
+fn short_memory() {
+    let (places, words) = small();
+    let sections = places.sections(&words);
+    let [registers, video, cursor, _] = sections;
+    let record = loaded(registers);
+    let stereo = [0, 1, 2, 3, 4, 5, 6, 7].map(|i| ((0x60 + 4 * i) << 24) | 4);
+    let player = loaded(&[stereo.as_slice(), &[0xC000_0003]].concat());
+    short(21, |setting| record.check_into(setting));
+    short(192, |cells| record.frame(video, cursor, cells));
+    short(32, |cells| record.raster(video, cursor, 0, cells));
+    short(2, |place| record.raster_words_into(video, 0, place));
+    short(1, |count| record.marks_into(video, cursor, 0, count));
+    short(8, |out| player.sound(&[0], 0, out).map(|_| ()));
+    short(1, |after| player.sound_into(&[], 0, &mut [], after));
+    short(2, |pair| sound_pair_into(0, 1, pair));
+    short(9, |numbers| plate::read_into(SMALL, numbers));
+    short(31, |words| plate::copy(SMALL, words));
+    short(140, |out| plate::write(sections, out).map(|_| ()));
+    short(1, |size| plate::write_into(sections, &mut [0; 140], size));
+    short(1, |size| plate::text_into(SMALL, &mut [0; 200], size));
+}
+
+#[test]
+fn a_refusal_says_number_detail_and_rule() {
+    let says = |number, detail| Refusal { number, detail }.to_string();
+    assert_eq!(says(2, 5), "refused 2 5: a reserved address, word 5");
+    assert_eq!(says(3, 0), "refused 3 0: a needed register is unwritten, address 00H");
+    assert_eq!(says(6, 0), "refused 6 0: not HS <= BS <= DS < DE <= BE <= N");
+    assert_eq!(
+        says(10, 0xC0),
+        "refused 10 192: a stereo value is 0, or the sound frequency is below 3, address C0H"
+    );
+    assert_eq!(says(10, 0), "refused 10 0: a stereo value is 0, or the sound frequency is below 3");
+    assert_eq!(says(16, 0), "refused 16 0: not in the table");
+}

@@ -1,0 +1,136 @@
+//! Compares the library under test with the second program, on made inputs: both answer, and the answers and all lent
+//! memory are held side by side.
+
+mod bench;
+mod damage;
+mod families;
+mod files;
+mod judged;
+mod large;
+mod lent;
+mod make_plate;
+mod make_record;
+mod make_scene;
+mod ours;
+mod pictures;
+mod printer;
+mod random;
+mod registers;
+mod show;
+mod sounds;
+mod tables;
+mod texts;
+
+use crate::bench::Bench;
+use crate::families::{run_round, FAMILIES};
+use crate::printer::{compare_printer, PLATES};
+use crate::random::Random;
+use std::time::{Duration, Instant};
+
+const USAGE: &str = "compare [--seed N] [--rounds N] [--only FAMILY [--round R]] [--printer PATH] [--trace]";
+
+struct Wishes {
+    seed: u64,
+    rounds: u64,
+    only: Option<String>,
+    round: Option<u64>,
+    printer: Option<String>,
+    trace: bool,
+    soak: Duration,
+}
+
+fn main() {
+    let wishes = wishes();
+    let started = Instant::now();
+    println!("seed {}", wishes.seed);
+    let mut bench = Bench::new(wishes.seed, wishes.trace);
+    match &wishes.only {
+        Some(name) => run_only(&mut bench, &wishes, name),
+        None => run_all(&mut bench, &wishes, started),
+    }
+    tables::print(&bench);
+    println!("{:.1} seconds", started.elapsed().as_secs_f64());
+    finish(&mut bench, wishes.only.is_none());
+}
+
+fn wishes() -> Wishes {
+    let soak = std::env::var("SOAK_SECONDS").map_or(0, |text| number(&text));
+    let mut wishes = Wishes {
+        seed: 1986,
+        rounds: 30_000,
+        only: None,
+        round: None,
+        printer: None,
+        trace: false,
+        soak: Duration::from_secs(soak),
+    };
+    let mut words = std::env::args().skip(1);
+    while let Some(word) = words.next() {
+        let mut value = || words.next().unwrap_or_else(|| usage());
+        match word.as_str() {
+            "--seed" => wishes.seed = number(&value()),
+            "--rounds" => wishes.rounds = number(&value()),
+            "--only" => wishes.only = Some(value()),
+            "--round" => wishes.round = Some(number(&value())),
+            "--printer" => wishes.printer = Some(value()),
+            "--trace" => wishes.trace = true,
+            _ => usage(),
+        }
+    }
+    wishes
+}
+
+fn number(text: &str) -> u64 {
+    text.parse().unwrap_or_else(|_| usage())
+}
+
+fn usage() -> ! {
+    eprintln!("{USAGE}");
+    std::process::exit(2);
+}
+
+/// The rounds asked for, then more until the soak's time is over.
+fn run_all(bench: &mut Bench, wishes: &Wishes, started: Instant) {
+    let mut round = 0;
+    while round < wishes.rounds || started.elapsed() < wishes.soak {
+        run_round(bench, round);
+        round += 1;
+    }
+    println!("{round} rounds");
+    run_printer(bench, wishes, 0..PLATES);
+}
+
+/// One family, in one round or in all.
+fn run_only(bench: &mut Bench, wishes: &Wishes, name: &str) {
+    let rounds = wishes.round.map_or(0..wishes.rounds, |round| round..round + 1);
+    if name == "printer" {
+        return run_printer(bench, wishes, wishes.round.map_or(0..PLATES, |_| rounds));
+    }
+    let found = FAMILIES.iter().find(|family| family.name == name);
+    let family = found.unwrap_or_else(|| usage());
+    for round in rounds.filter(|round| round % family.every == 0) {
+        family.run(bench, round);
+    }
+}
+
+fn run_printer(bench: &mut Bench, wishes: &Wishes, rounds: std::ops::Range<u64>) {
+    let Some(program) = &wishes.printer else {
+        return;
+    };
+    for round in rounds {
+        bench.begin("printer", round);
+        let mut random = Random::new(bench.seed, "printer", round);
+        compare_printer(bench, &mut random, program);
+    }
+}
+
+/// In a whole run, what was never met is a failure.
+fn finish(bench: &mut Bench, whole: bool) {
+    let missing = if whole { tables::never_met(bench) } else { Vec::new() };
+    for what in &missing {
+        println!("NEVER MET: {what}");
+    }
+    let failed = bench.failed + missing.len() as u64;
+    println!("{} passed, {} failed", bench.passed, failed);
+    std::process::exit(i32::from(failed != 0));
+}

@@ -1,0 +1,37 @@
+//! What the second program expects, in the types of the library's Rust wrapper, name by name.
+
+use second::plate::Trailer;
+use second::record::Record;
+use second::refusal::Refusal;
+use second::setting::Setting;
+use vombelishi::plate::Places;
+
+pub fn record(record: &Record) -> vombelishi::Record {
+    vombelishi::Record { values: record.values, written: record.written.map(u8::from) }
+}
+
+pub fn refusal(Refusal { number, detail }: Refusal) -> vombelishi::Refusal {
+    vombelishi::Refusal { number, detail }
+}
+
+#[rustfmt::skip] // in the paper's order
+pub fn setting(setting: Setting) -> vombelishi::Setting {
+    let (video_words, cursor_words) = (setting.video_words(), setting.cursor_words());
+    let Setting {
+        n, hs, bs, ds, de, be, cx,
+        v, vs, vbs, vds, vde, vbe, vcs, vce,
+        depth, display_on, border_on, cursor_on,
+    } = setting;
+    vombelishi::Setting {
+        n, hs, bs, ds, de, be, cx,
+        v, vs, vbs, vds, vde, vbe, vcs, vce,
+        depth, display_on, border_on, cursor_on,
+        video_words, cursor_words,
+    }
+}
+
+pub fn places(trailer: Trailer) -> Places {
+    let [registers, video, cursor, sound, end] = trailer.starts().map(|byte| byte as usize);
+    let [r, v, c, s] = [trailer.r, trailer.v, trailer.c, trailer.s].map(|distance| distance as usize);
+    Places { registers, video, cursor, sound, trailer: end, r, v, c, s }
+}
