@@ -1,34 +1,26 @@
 -- The lines of a text, one after another: none is empty but those after the last.
-use Prim.Native.Nat.{ℕ, zero, suc, _+_, _*_, _-_, _/_, _≤_, _<_}
+use Prim.Native.Nat.{ℕ, zero, suc, _+_, _-_, _/_, _≤_, _<_}
 use mathlib.Core.Path.{_≡_, refl, sym, _∙_, ap}
 use mathlib.Core.Bool.{Bool, true, false, _||_}
-use mathlib.Core.List.{List, [], _∷_, _++_, append-nil}
+use mathlib.Core.List.{List, [], _∷_, _++_}
 use native.Mathlib.Numerals.{add-one}
 use native.Mathlib.Omega.{arith}
-use borrow.Author.Tests.{ltb-false, lt-ltb, le-ltb, lt-leb, le-leb, eq-eqb, ne-eqb}
+use borrow.Author.Tests.{ltb-false, le-leb, ne-eqb}
 use lib.ListN.{length, length-append, take, drop}
 use lib.Seq.{sets, sets-eq, take-append-seam, length-sets}
-use lib.Dec.{ltb, eqb, leb}
-use Rattle.buffers.specs.Pick.{pick}
+use lib.Dec.{ltb}
 use Rattle.buffers.proofs.Sets.{sets-append}
-use Rattle.registers.specs.Table.{Told, given, refused, andThen, row, judged}
-use Rattle.registers.specs.Check.{checkTold}
+use Rattle.registers.specs.Table.{Told, given, refused}
 use Rattle.registers.specs.declared.setting.Setting.{Setting}
-use Rattle.registers.specs.declared.record.Registers.{Registers}
-use Rattle.registers.proofs.Accepted.{Accepted}
-use Rattle.registers.proofs.Tables.{never}
 use Rattle.buffers.proofs.Split.{lt-or-le}
 use Rattle.buffers.proofs.Tests.{no}
 use mathlib.Core.Logic.{inl, inr}
 use native.Mathlib.Nat.{zero-add, suc-add}
-use Rattle.runs.proofs.Texts.{picture-accepted, no-more}
+use Rattle.runs.proofs.Texts.{picture-accepted, told-picture, no-more}
 use Rattle.runs.specs.Runs.{lineOf, runsFrom}
 use Rattle.buffers.specs.Put.{Put}
 use Rattle.frame.specs.Frame.{rasterCell}
-use Rattle.plates.specs.Read.{readTold}
-use Rattle.plates.specs.declared.Sections.{Sections}
-use Rattle.registers.specs.Load.{loadTold}
-use Rattle.runs.specs.Sheet.{sheetTold, pictureTold, registerWords, registersOf, videoList, cursorList}
+use Rattle.runs.specs.Sheet.{sheetTold, registersOf, videoList, cursorList}
 use Rattle.runs.specs.Text.{pairLine, headOf, headLine, refusedLine, labelled, valuesFrom, rasterLine, pictureLine, lineFor, lineAt, linesFor, firstLines, textOf}
 use Rattle.c_calls.specs.Code.{codeOf}
 use Rattle.c_calls.specs.Texts.{textCall, textLeaves, textLength}
@@ -57,17 +49,7 @@ some-refused n d = rw length-append (omega arith)
 module _ (file : List ℕ) where
   -- A plate that is not refused has an accepted setting.
   few-rasters : (s : Setting) → sheetTold file ≡ given s → s .v .0 ≤ 1024
-  unfolding sheetTold
-  few-rasters s e =
-      picture-accepted (registersOf file) (videoList file) (cursorList file) s (go (judged (row 15 (ltb 65536 (length file)) 0 ∷ []) (length file)) (readTold file) (loadTold (registerWords file)) e) .v-most
-    where
-      go : (t : Told ℕ) (r : Told Sections) (l : Told (Unit {0}))
-          → andThen t (λ _. andThen r (λ _. andThen l (λ _. pictureTold (registersOf file) (videoList file) (cursorList file)))) ≡ given s
-          → pictureTold (registersOf file) (videoList file) (cursorList file) ≡ given s
-      go (refused n d) r l h = never (sym h)
-      go (given a) (refused n d) l h = never (sym h)
-      go (given a) (given b) (refused n d) h = never (sym h)
-      go (given a) (given b) (given c) h = h
+  few-rasters s e = picture-accepted (registersOf file) (videoList file) (cursorList file) s (told-picture file s e) .v-most
 
   pub few-lines : linesFor (sheetTold file) ≤ 1025
   few-lines = go (sheetTold file) refl

@@ -51,9 +51,12 @@ abbrev pub writeRows : List ℕ → List ℕ → List ℕ → List ℕ → ℕ �
 writeRows rs vs cs ss places =
     row 15 (ltb mostBytes (plateLength rs vs cs ss)) 0 ∷ row 13 (ltb places (plateLength rs vs cs ss)) 0 ∷ []
 
--- A plate that is printed: 15, 14, 1 to 9, 11.
+-- A plate taken apart: 15, 14, 1, 2; printed: 3 to 9, 11 after them; played: 3, 10 after them.
+abbrev pub takenRows : List ℕ → List Row
+takenRows file = row 15 (ltb mostInput (length file)) 0 ∷ row 14 (not (right file)) 0 ∷ loadTable (registerWords file)
+
 abbrev pub sheetRows : List ℕ → List Row
-sheetRows file =
-    row 15 (ltb mostInput (length file)) 0
-    ∷ row 14 (not (right file)) 0
-    ∷ (loadTable (registerWords file) ++ marksRows (registersOf file) (videoList file) (cursorList file))
+sheetRows file = takenRows file ++ marksRows (registersOf file) (videoList file) (cursorList file)
+
+abbrev pub waveRows : List ℕ → List Row
+waveRows file = takenRows file ++ soundTable (registersOf file)
