@@ -1,60 +1,64 @@
-use borrow.Author.Needs.{needs}
 use native.Mathlib.Omega.{arith}
-use Rattle.frame.proofs.Words.{chunk-room, chunk-bits, chunk-step, chunk-turn}
+use native.Mathlib.Nat.{mod-lt}
+use borrow.Author.Needs.{needs}
+use Rattle.frame.proofs.Words.{part-room, part-turn, cells-lie}
 use Rattle.frame.specs.Ink.{from, wordInk}
-use Prim.Native.Nat.{ℕ, _+_, _*_, _-_, _≤_}
+use Prim.Native.Nat.{ℕ, _+_, _*_, _-_, _/_, _%_, _^_, _≤_}
 use mathlib.Core.Path.{_≡_, ap, _∙_}
 use Rattle.buffers.proofs.Paints.{Paints, paint-none, paints-painted}
 use Rattle.frame.proofs.decode.word.Statement.{statement}
 use Rattle.frame.proofs.decode.word.Tie as tie
 
 abbrev Inv-loop : tie.InvT-loop
-Inv-loop out₀ at count chunks w d table step k₀ bits₀ j₀ out k bits j = (j ≤ chunks) × (k ≡ at + j * count) × (bits ≡ j * (count * d)) × Paints 0 out₀ out at k (from at (wordInk table w d))
+Inv-loop out₀ at per w table k₀ b₀ out k b = (b ≤ 4) × (k ≡ at + b * per) × Paints 0 out₀ out at k (from at (wordInk table w per))
 
 abbrev μ-loop : tie.MeasureT-loop
-μ-loop out₀ at count chunks w d table step k₀ bits₀ j₀ out k bits j = chunks - j
-
-cast-step : tie.Need-cast-step Inv-loop μ-loop
-cast-step c = search needs
-
-mul-step : tie.Need-mul-step Inv-loop μ-loop
-mul-step c = omega (arith, chunk-step _ _ (c .before .pre .1) (c .before .pre .2))
+μ-loop out₀ at per w table k₀ b₀ out k b = 4 - b
 
 loop-holds : tie.Need-loop-holds Inv-loop μ-loop
-loop-holds c = (omega arith, omega arith, omega arith, paint-none _ _)
+loop-holds c = (omega arith, omega arith, paint-none _ _)
 
-shr-some : tie.Need-shr-some Inv-loop μ-loop
-shr-some c = let s = c .before .before .before .before in
-    rw (c .before .before .loop .inv .2) (chunk-bits _ (s .args .chunks) _ _ (c .before .loop-test .taken) (s .pre .3))
+mul-byte : tie.Need-mul-byte Inv-loop μ-loop
+mul-byte c = search needs
 
-some-requires : tie.Need-some-requires Inv-loop μ-loop
-some-requires c κs = let s = c .before .before .before .before in
-    let l = c .before .before .loop in
-    (omega (arith, chunk-room (l .j) (s .args .chunks) (s .args .count) (s .args .d) (c .before .loop-test .taken), s .pre .0, l .inv .1, l .inv .3 .len), s .pre .2)
+shr-byte : tie.Need-shr-byte Inv-loop μ-loop
+shr-byte c = search needs
+
+cast-byte : tie.Need-cast-byte Inv-loop μ-loop
+cast-byte c = search needs
+
+mul-cells : tie.Need-mul-cells Inv-loop μ-loop
+mul-cells c = let s = c .before .before .before .before in
+    omega (arith, cells-lie (s .args .w / 2 ^ (8 * c .before .before .loop .b) % 256) (s .args .per) (mod-lt _ (omega arith)) (s .pre .1))
+
+cells-requires : tie.Need-cells-requires Inv-loop μ-loop
+cells-requires c κs = let s = c .before .before .before .before in
+    (s .pre .1, cells-lie (s .args .w / 2 ^ (8 * c .before .before .loop .b) % 256) (s .args .per) (mod-lt _ (omega arith)) (s .pre .1))
+
+put-requires : tie.Need-put-requires Inv-loop μ-loop
+put-requires c κs = let s = c .before .before .before .before .before in
+    let l = c .before .before .before .loop in
+    (s .pre .1, omega (arith, part-room (l .b) 4 (s .args .per) (c .before .before .loop-test .taken), s .pre .0, l .inv .1, l .inv .2 .len))
 
 add-k : tie.Need-add-k Inv-loop μ-loop
-add-k c = omega (arith, chunk-room (c .before .before .before .before .before .loop .j) (c .before .before .before .before .before .before .before .args .chunks) (c .before .before .before .before .before .before .before .args .count) (c .before .before .before .before .before .before .before .args .d) (c .before .before .before .before .loop-test .taken))
+add-k c = let s = c .before .before .before .before .before .before .before .before in
+    let l = c .before .before .before .before .before .before .loop in
+    omega (arith, part-room (l .b) 4 (s .args .per) (c .before .before .before .before .before .loop-test .taken), l .inv .1)
 
-add-bits : tie.Need-add-bits Inv-loop μ-loop
-add-bits c = let s = c .before .before .before .before .before .before .before in
-    let l = c .before .before .before .before .before .loop in
-    omega (arith, chunk-step _ _ (s .pre .1) (s .pre .2), l .inv .2, chunk-bits (l .j) (s .args .chunks) (s .args .count) (s .args .d) (c .before .before .before .before .loop-test .taken) (s .pre .3))
-
-add-j : tie.Need-add-j Inv-loop μ-loop
-add-j c = search needs
+add-b : tie.Need-add-b Inv-loop μ-loop
+add-b c = search needs
 
 loop-less : tie.Need-loop-less Inv-loop μ-loop
 loop-less c = search needs
 
 loop-again : tie.Need-loop-again Inv-loop μ-loop
-loop-again c = let s = c .before .before .before .before .before .before .before in
-    let l = c .before .before .before .before .before .loop in (
+loop-again c = let s = c .before .before .before .before .before .before .before .before in
+    let l = c .before .before .before .before .before .before .loop in (
       omega arith,
       omega (arith, l .inv .1),
-      omega (arith, l .inv .2),
-      chunk-turn _ _ _ _ _ _ _ _ (l .inv .1) (l .inv .2) _ _ _
-          (omega (arith, chunk-room (l .j) (s .args .chunks) (s .args .count) (s .args .d) (c .before .before .before .before .loop-test .taken), s .pre .0, l .inv .1))
-          (l .inv .3) (c .before .before .some .ensures),
+      part-turn _ _ _ _ _ _ _ (l .inv .1) (s .pre .1) (c .before .before .before .cells .ensures) _ _ _
+          (omega (arith, part-room (l .b) 4 (s .args .per) (c .before .before .before .before .before .loop-test .taken), s .pre .0, l .inv .1))
+          (l .inv .2) (c .before .before .put .ensures),
     )
 
 same-length : tie.Need-same-length Inv-loop μ-loop
@@ -63,9 +67,9 @@ same-length c = search needs
 returns : tie.Need-returns Inv-loop μ-loop
 returns c = let s = c .before .before .before in
     let l = c .before .loop in
-    let e : l .j ≡ s .args .chunks = omega arith in
-    let k : l .k ≡ s .args .at + s .args .chunks * s .args .count = l .inv .1 ∙ ap (λ (n : ℕ). s .args .at + n * s .args .count) e in
-    paints-painted (s .pre .0) (rw k at (l .inv .3))
+    let e : l .b ≡ 4 = omega arith in
+    let k : l .k ≡ s .args .at + 4 * s .args .per = l .inv .1 ∙ ap (λ (n : ℕ). s .args .at + n * s .args .per) e in
+    paints-painted (s .pre .0) (rw k at (l .inv .2))
 
 pub word-spec : {M : Type 1} → statement M
 word-spec =
@@ -73,14 +77,15 @@ word-spec =
     (tie.spec
     Inv-loop
     μ-loop
-    cast-step
-    mul-step
     loop-holds
-    shr-some
-    some-requires
+    mul-byte
+    shr-byte
+    cast-byte
+    mul-cells
+    cells-requires
+    put-requires
     add-k
-    add-bits
-    add-j
+    add-b
     loop-less
     loop-again
     same-length
