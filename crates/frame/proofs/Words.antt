@@ -3,7 +3,7 @@ use Prim.Native.Nat.{ℕ, _+_, _*_, _-_, _/_, _%_, _^_, _<_, _≤_}
 use mathlib.Core.Path.{_≡_, refl, sym, ap, _∙_}
 use mathlib.Core.List.{List}
 use mathlib.Core.Logic.{inl, inr}
-use native.Mathlib.Nat.{mod-eq-of-lt, mod-lt, one-mul, mul-le-mul-right, div-one, sub-self, zero-add, zero-mul, mul-zero, div-add-mod', div-lt-iff-lt-mul}
+use native.Mathlib.Nat.{mod-eq-of-lt, mod-lt, one-mul, mul-le-mul-right, div-one, sub-self, zero-mul, mul-zero, div-add-mod', div-lt-iff-lt-mul}
 use native.Mathlib.Omega.{arith}
 use lib.Arith.{digits-div, digits-mod}
 use lib.ListN.{length, getD, replicate, length-replicate}
@@ -14,7 +14,8 @@ use Rattle.buffers.proofs.Paints.{Paints, paint-next, paint-as, paints-of}
 use Rattle.buffers.proofs.Split.{lt-or-le}
 use Rattle.registers.proofs.Accepted.{Depth}
 use Rattle.frame.specs.Pixel.{pixel}
-use Rattle.frame.specs.Ink.{from, cellFrom, byteInk, bytesInk, wordInk, wordsInk}
+use Rattle.frame.specs.Lent.{Parts}
+use Rattle.frame.specs.Ink.{from, cellIn, byteInk, bytesInk, wordInk, wordsInk}
 use Rattle.frame.proofs.PixelPlaces.{pixel-in}
 
 -- 2 ^ d as the machine makes it.
@@ -58,37 +59,53 @@ module _ (shades : List ℕ) (per d b k : ℕ) (start : k ≡ b * per) where
   byte-turn o p q room so-far e =
       paint-next (omega arith) (omega arith) so-far (paint-as (bytesInk shades per d) byte-same (paints-of (rw (so-far .len) room) e))
 
--- A cell that is read, and where it is stored.
-pub cell-read : (table : List ℕ) (first j : ℕ) → getD table (first + j) 0 ≡ cellFrom table first j
-unfolding cellFrom
-cell-read table first j = refl
+-- Pixel i of a word stands in one of its four bytes, and that byte's cells in the table.
+module _ (w i per : ℕ) (some : 0 < per) where
+  pub in-word : i < 4 * per → i / per < 4
+  in-word h = div-lt-iff-lt-mul some .1 h
 
-pub cell-stored : (cells : List ℕ) (at k : ℕ) → getD cells (k - at) 0 ≡ from at (cellFrom cells 0) k
-unfolding from cellFrom
-cell-stored cells at k = rw (zero-add (k - at))
+  pub in-table : per ≤ 8 → w / 2 ^ (8 * (i / per)) % 256 * per + i % per < 2048
+  in-table few =
+      let b : w / 2 ^ (8 * (i / per)) % 256 < 256 = mod-lt _ (omega arith) in
+      omega (arith, part-room (w / 2 ^ (8 * (i / per)) % 256) 256 per b, mod-lt i some)
 
--- The cells of byte b of a word, where they are read and stored.
-module _ (table cells : List ℕ) (w per at b k : ℕ) (start : k ≡ at + b * per) (few : per ≤ 8)
-    (read : cells ≡ painted (replicate 8 0) 0 per (cellFrom table (w / 2 ^ (8 * b) % 256 * per))) where
-  part-same : (i : ℕ) → k ≤ i → i < k + per → from k (cellFrom cells 0) i ≡ from at (wordInk table w per) i
-  unfolding from cellFrom wordInk
+-- A cell that was read, where it is stored.
+pub cell-stored : (cells : List ℕ) (at k : ℕ) → getD cells (k - at) 0 ≡ from at (cellIn cells) k
+unfolding from cellIn
+cell-stored cells at k = refl
+
+-- Part j of a word.
+module _ {per bytes parts : ℕ} (p : Parts per bytes parts) where
+  pub per-few : per ≤ 8
+  per-few = omega (arith, p .eight, mul-le-mul-right per (p .some))
+
+  module _ (j : ℕ) (h : j < parts) where
+    pub part-bytes : j * bytes + bytes ≤ 4
+    part-bytes = omega (arith, p .four, part-room j parts bytes h)
+
+    pub part-fits : j * (bytes * per) + bytes * per ≤ 4 * per
+    part-fits = omega (arith, mul-le-mul-right per part-bytes)
+
+module _ (table cells : List ℕ) (w per bytes at j k : ℕ) (start : k ≡ at + j * (bytes * per)) (some : 0 < per) (few : bytes * per ≤ 8)
+    (read : cells ≡ painted (replicate 8 0) 0 (bytes * per) (wordInk table (w / 2 ^ (8 * (j * bytes))) per)) where
+  read-at : (x : ℕ) → x < bytes * per → getD cells x 0 ≡ wordInk table (w / 2 ^ (8 * (j * bytes))) per x
+  read-at x h = paints-of {d = 0} {l = replicate 8 0} (omega (arith, length-replicate {A = ℕ} 8 0)) read .on x (omega arith) h
+
+  part-same : (i : ℕ) → k ≤ i → i < k + bytes * per → from k (cellIn cells) i ≡ from at (wordInk table w per) i
+  unfolding from cellIn wordInk
   part-same i p q =
-      let e : i - at ≡ b * per + (i - k) = omega arith in
-      let x : i - k < per = omega arith in
-      let here : (i - at) / per ≡ b = ap (λ (n : ℕ). n / per) e ∙ digits-div b x in
-      let low : (i - at) % per ≡ i - k = ap (λ (n : ℕ). n % per) e ∙ digits-mod b x in
-      rw (zero-add (i - k), here, low)
-      (paints-of {d = 0} {l = replicate 8 0} {f = cellFrom table (w / 2 ^ (8 * b) % 256 * per)} (omega (arith, length-replicate {A = ℕ} 8 0)) read .on (i - k) (omega arith) x)
+      let b = j * bytes + (i - k) / per in
+      let e : i - at ≡ b * per + (i - k) % per = omega (arith, div-add-mod' (i - k) per) in
+      let here : (i - at) / per ≡ b = ap (λ (n : ℕ). n / per) e ∙ digits-div b (mod-lt (i - k) some) in
+      let low : (i - at) % per ≡ (i - k) % per = ap (λ (n : ℕ). n % per) e ∙ digits-mod b (mod-lt (i - k) some) in
+      let bits : 8 * b ≡ 8 * (j * bytes) + 8 * ((i - k) / per) = omega arith in
+      rw (here, low, bits, ← shr-shr w (8 * (j * bytes)) (8 * ((i - k) / per))) (read-at (i - k) (omega arith))
 
-  -- One byte more is painted.
-  pub part-turn : (o p q : List ℕ) → k + per ≤ length o → Paints 0 o p at k (from at (wordInk table w per))
-      → q ≡ painted p k (k + per) (from k (cellFrom cells 0)) → Paints 0 o q at (k + per) (from at (wordInk table w per))
+  -- One part more is painted.
+  pub part-turn : (o p q : List ℕ) → k + bytes * per ≤ length o → Paints 0 o p at k (from at (wordInk table w per))
+      → q ≡ painted p k (k + bytes * per) (from k (cellIn cells)) → Paints 0 o q at (k + bytes * per) (from at (wordInk table w per))
   part-turn o p q room so-far e =
       paint-next (omega arith) (omega arith) so-far (paint-as (from at (wordInk table w per)) part-same (paints-of (rw (so-far .len) room) e))
-
--- A byte's cells lie in the table.
-pub cells-lie : (b per : ℕ) → b < 256 → per ≤ 8 → b * per + per ≤ 2048
-cells-lie b per h few = omega (arith, part-room b 256 per h)
 
 -- The bytes of word q of a list.
 module _ (table ws : List ℕ) (per at q k : ℕ) (start : k ≡ at + q * (4 * per)) where

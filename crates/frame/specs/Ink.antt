@@ -18,9 +18,8 @@ use Rattle.frame.specs.Cell.{plainCode, covered}
 unfoldable pub from : ℕ → (ℕ → ℕ) → ℕ → ℕ
 from at rule k = rule (k - at)
 
--- Cell j of a list from its cell `first` on.
-unfoldable pub cellFrom : List ℕ → ℕ → ℕ → ℕ
-cellFrom cells first j = getD cells (first + j) 0
+unfoldable pub cellIn : List ℕ → ℕ → ℕ
+cellIn cells j = getD cells j 0
 
 -- The cell of pixel j of a byte, and place k of the table: pixel k mod per of byte k div per.
 unfoldable pub byteInk : List ℕ → ℕ → ℕ → ℕ → ℕ

@@ -1,7 +1,7 @@
 use native.Mathlib.Omega.{arith}
 use borrow.Author.Needs.{needs}
 use Rattle.frame.proofs.Words.{cell-stored}
-use Rattle.frame.specs.Ink.{from, cellFrom}
+use Rattle.frame.specs.Ink.{from, cellIn}
 use Prim.Native.Nat.{_+_, _-_, _≤_}
 use mathlib.Core.Path.{_≡_}
 use Rattle.buffers.proofs.Paints.{Paints, paint-none, paint-more, paints-painted}
@@ -9,7 +9,7 @@ use Rattle.frame.proofs.decode.put.Statement.{statement}
 use Rattle.frame.proofs.decode.put.Tie as tie
 
 abbrev Inv-loop : tie.InvT-loop
-Inv-loop out₀ at count cells end k₀ out k = (at ≤ k) × (k ≤ end) × Paints 0 out₀ out at k (from at (cellFrom cells 0))
+Inv-loop out₀ at count cells end k₀ out k = (at ≤ k) × (k ≤ end) × Paints 0 out₀ out at k (from at (cellIn cells))
 
 abbrev μ-loop : tie.MeasureT-loop
 μ-loop out₀ at count cells end k₀ out k = end - k
@@ -42,8 +42,7 @@ loop-less : tie.Need-loop-less Inv-loop μ-loop
 loop-less c = search needs
 
 loop-again : tie.Need-loop-again Inv-loop μ-loop
-loop-again c = let s = c .before .before in
-    let l = c .before .loop in
+loop-again c = let l = c .before .loop in
     (omega arith, omega arith, paint-more _ (omega arith) (omega arith) (cell-stored _ _ _) (l .inv .2))
 
 same-length : tie.Need-same-length Inv-loop μ-loop

@@ -1,6 +1,6 @@
 use native.Mathlib.Omega.{arith}
 use borrow.Author.Needs.{needs}
-use Rattle.frame.proofs.Words.{part-room, word-turn}
+use Rattle.frame.proofs.Words.{part-room, per-few, word-turn}
 use Rattle.frame.specs.Ink.{from, wordsInk}
 use lib.ListN.{length}
 use Prim.Native.Nat.{ℕ, _+_, _*_, _-_, _≤_}
@@ -10,10 +10,10 @@ use Rattle.frame.proofs.decode.words.Statement.{statement}
 use Rattle.frame.proofs.decode.words.Tie as tie
 
 abbrev Inv-loop : tie.InvT-loop
-Inv-loop out₀ at video per table k₀ q₀ out k q = (q ≤ length video) × (k ≡ at + q * (4 * per)) × Paints 0 out₀ out at k (from at (wordsInk table video per))
+Inv-loop out₀ at video per bytes parts table k₀ q₀ out k q = (q ≤ length video) × (k ≡ at + q * (4 * per)) × Paints 0 out₀ out at k (from at (wordsInk table video per))
 
 abbrev μ-loop : tie.MeasureT-loop
-μ-loop out₀ at video per table k₀ q₀ out k q = length video - q
+μ-loop out₀ at video per bytes parts table k₀ q₀ out k q = length video - q
 
 loop-holds : tie.Need-loop-holds Inv-loop μ-loop
 loop-holds c = (omega arith, omega arith, paint-none _ _)
@@ -30,7 +30,7 @@ word-requires c κs = let s = c .before .before .before .before .before .before 
     (omega (arith, part-room (l .q) (length (s .args .video .now)) (4 * s .args .per) (c .before .before .loop-test .taken), s .pre .0, l .inv .1, l .inv .2 .len), s .pre .1)
 
 mul-k : tie.Need-mul-k Inv-loop μ-loop
-mul-k c = search needs
+mul-k c = omega (arith, per-few (c .before .before .before .before .before .before .before .before .before .pre .1))
 
 add-k : tie.Need-add-k Inv-loop μ-loop
 add-k c = let s = c .before .before .before .before .before .before .before .before .before in
