@@ -3,7 +3,7 @@ use Prim.Native.Nat.{ℕ, _+_, _*_, _-_, _/_, _%_, _^_, _<_, _≤_}
 use mathlib.Core.List.{List}
 use mathlib.Core.Logic.{⊎-elim}
 use mathlib.Core.Path.{_≡_, sym, ap, _∙_}
-use native.Mathlib.Nat.{mod-lt, div-add-mod', mul-le-mul-right}
+use native.Mathlib.Nat.{mod-lt, div-add-mod', mul-le-mul-right, mul-add-div-right, mul-add-mod-self-right}
 use native.Mathlib.Omega.{arith}
 use lib.ListN.{getD, take, drop}
 use lib.Pow.{pow-pos, field, mod-mod-pow, shr-shr}
@@ -22,6 +22,14 @@ per-least h = ⊎-elim (λ e. rw e (omega arith)) (⊎-elim (λ e. rw e (omega a
 
 pub per-most : {d : ℕ} → Depth d → 8 / d ≤ 8
 per-most h = ⊎-elim (λ e. rw e (omega arith)) (⊎-elim (λ e. rw e (omega arith)) (⊎-elim (λ e. rw e (omega arith)) (λ e. rw e (omega arith)))) h
+
+-- Pixel n, which is pixel x past b bytes of per pixels each.
+module _ (n per b x : ℕ) (e : n ≡ b * per + x) where
+  pub past-bytes : 0 < per → n / per ≡ b + x / per
+  past-bytes some = ap (λ (k : ℕ). k / per) e ∙ mul-add-div-right some b x
+
+  pub past-pixels : n % per ≡ x % per
+  past-pixels = ap (λ (k : ℕ). k % per) e ∙ mul-add-mod-self-right b per x
 
 -- The pixels of x that lie in its low byte.
 pub low-field : (x k d : ℕ) → k + d ≤ 8 → x % 256 / 2 ^ k % 2 ^ d ≡ x / 2 ^ k % 2 ^ d

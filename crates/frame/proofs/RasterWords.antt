@@ -1,12 +1,11 @@
 -- The words of one displayed raster: a stretch of the caller's list, whose pixels are the frame's.
-use Prim.Native.Nat.{ℕ, _+_, _*_, _-_, _/_, _%_, _<_, _≤_}
+use Prim.Native.Nat.{ℕ, _+_, _*_, _-_, _/_, _<_, _≤_}
 use mathlib.Core.Path.{_≡_, sym, ap, _∙_}
 use mathlib.Core.List.{List}
 use mathlib.Core.Logic.{inl, inr}
-use native.Mathlib.Nat.{mul-assoc, mul-le-mul-right, eq-of-mul-eq-mul-right, mul-le-mul, mod-lt, div-add-mod', div-lt-iff-lt-mul}
+use native.Mathlib.Nat.{mul-assoc, mul-le-mul-right, eq-of-mul-eq-mul-right, mul-le-mul, div-lt-iff-lt-mul}
 use native.Mathlib.Omega.{arith}
 use borrow.Author.Tests.{lt-ltb}
-use lib.Arith.{digits-div, digits-mod}
 use lib.ListN.{length, take, drop, length-take, length-drop}
 use Rattle.buffers.specs.Painted.{painted}
 use Rattle.buffers.proofs.Paints.{paint-as, paints-of, paints-painted}
@@ -16,7 +15,7 @@ use Rattle.frame.specs.Pixel.{rasterWords, firstWord}
 use Rattle.registers.proofs.Accepted.{Depth, Accepted}
 use Rattle.registers.proofs.Words.{depth-least, depth-most, raster-bits, raster-most, video-rasters}
 use Rattle.frame.specs.Lent.{Raster}
-use Rattle.frame.proofs.PixelPlaces.{per-least, byte-part}
+use Rattle.frame.proofs.PixelPlaces.{per-least, past-bytes, past-pixels, byte-part}
 use Rattle.frame.specs.Ink.{from, wordsInk, displayInk}
 
 -- 32/d pixels of d bits fill a word.
@@ -38,10 +37,9 @@ row-same : (table ws : List ℕ) (per m r j : ℕ) → 0 < per → j < m * (4 * 
 unfolding wordsInk
 row-same table ws per m r j some h =
     let b : j / per < m * 4 = div-lt-iff-lt-mul some .1 (omega arith) in
-    let e : r * (m * (4 * per)) + j ≡ (r * m * 4 + j / per) * per + j % per = omega (arith, div-add-mod' j per) in
-    let here : (r * (m * (4 * per)) + j) / per ≡ r * m * 4 + j / per = ap (λ (n : ℕ). n / per) e ∙ digits-div (r * m * 4 + j / per) (mod-lt j some) in
-    let low : (r * (m * (4 * per)) + j) % per ≡ j % per = ap (λ (n : ℕ). n % per) e ∙ digits-mod (r * m * 4 + j / per) (mod-lt j some) in
-    rw (here, low, byte-part ws (r * m) m (j / per) b)
+    let n = r * (m * (4 * per)) + j in
+    let e : n ≡ r * m * 4 * per + j = omega arith in
+    rw (past-bytes n per (r * m * 4) j e some, past-pixels n per (r * m * 4) j e, byte-part ws (r * m) m (j / per) b)
 
 module _ (s : Setting) (r : Accepted s) where
   -- Words to a raster, and pixels to its words.

@@ -3,20 +3,19 @@ use Prim.Native.Nat.{ℕ, _+_, _*_, _-_, _/_, _%_, _^_, _<_, _≤_}
 use mathlib.Core.Path.{_≡_, refl, sym, ap, _∙_}
 use mathlib.Core.List.{List}
 use mathlib.Core.Logic.{inl, inr}
-use native.Mathlib.Nat.{mod-eq-of-lt, mod-lt, one-mul, mul-le-mul-right, div-one, sub-self, zero-mul, mul-zero, div-add-mod', div-lt-iff-lt-mul}
+use native.Mathlib.Nat.{mod-eq-of-lt, mod-lt, one-mul, mul-le-mul-right, div-one, sub-self, zero-mul, mul-zero, div-lt-iff-lt-mul}
 use native.Mathlib.Omega.{arith}
 use lib.Arith.{digits-div, digits-mod}
 use lib.ListN.{length, getD, replicate, length-replicate}
 use lib.Pow.{pow-pos, pow-mono, shr-shr}
 use Rattle.buffers.specs.Painted.{painted}
-use Rattle.buffers.specs.Words.{byteOf}
 use Rattle.buffers.proofs.Paints.{Paints, paint-next, paint-as, paints-of}
 use Rattle.buffers.proofs.Split.{lt-or-le}
 use Rattle.registers.proofs.Accepted.{Depth}
 use Rattle.frame.specs.Pixel.{pixel}
 use Rattle.frame.specs.Lent.{Parts}
 use Rattle.frame.specs.Ink.{from, cellIn, byteInk, bytesInk, wordInk, wordsInk}
-use Rattle.frame.proofs.PixelPlaces.{pixel-in}
+use Rattle.frame.proofs.PixelPlaces.{past-bytes, past-pixels, pixel-in}
 
 -- 2 ^ d as the machine makes it.
 pub one-shifted : (d : ℕ) → d ≤ 8 → (1 * 2 ^ d) % 2 ^ 32 ≡ 2 ^ d
@@ -94,12 +93,10 @@ module _ (table cells : List ℕ) (w per bytes at j k : ℕ) (start : k ≡ at +
   part-same : (i : ℕ) → k ≤ i → i < k + bytes * per → from k (cellIn cells) i ≡ from at (wordInk table w per) i
   unfolding from cellIn wordInk
   part-same i p q =
-      let b = j * bytes + (i - k) / per in
-      let e : i - at ≡ b * per + (i - k) % per = omega (arith, div-add-mod' (i - k) per) in
-      let here : (i - at) / per ≡ b = ap (λ (n : ℕ). n / per) e ∙ digits-div b (mod-lt (i - k) some) in
-      let low : (i - at) % per ≡ (i - k) % per = ap (λ (n : ℕ). n % per) e ∙ digits-mod b (mod-lt (i - k) some) in
-      let bits : 8 * b ≡ 8 * (j * bytes) + 8 * ((i - k) / per) = omega arith in
-      rw (here, low, bits, ← shr-shr w (8 * (j * bytes)) (8 * ((i - k) / per))) (read-at (i - k) (omega arith))
+      let e : i - at ≡ j * bytes * per + (i - k) = omega arith in
+      let bits : 8 * (j * bytes + (i - k) / per) ≡ 8 * (j * bytes) + 8 * ((i - k) / per) = omega arith in
+      rw (past-bytes (i - at) per (j * bytes) (i - k) e some, past-pixels (i - at) per (j * bytes) (i - k) e, bits, ← shr-shr w (8 * (j * bytes)) (8 * ((i - k) / per)))
+      (read-at (i - k) (omega arith))
 
   -- One part more is painted.
   pub part-turn : (o p q : List ℕ) → k + bytes * per ≤ length o → Paints 0 o p at k (from at (wordInk table w per))
@@ -112,15 +109,12 @@ module _ (table ws : List ℕ) (per at q k : ℕ) (start : k ≡ at + q * (4 * p
   word-same : (i : ℕ) → k ≤ i → i < k + 4 * per → from k (wordInk table (getD ws q 0) per) i ≡ from at (wordsInk table ws per) i
   unfolding from wordInk wordsInk
   word-same i p t =
-      let x = i - k in
       let some : 0 < per = omega arith in
-      let b : x / per < 4 = div-lt-iff-lt-mul some .1 (omega arith) in
-      let e : i - at ≡ (q * 4 + x / per) * per + x % per = omega (arith, div-add-mod' x per) in
-      let here : (i - at) / per ≡ q * 4 + x / per = ap (λ (n : ℕ). n / per) e ∙ digits-div (q * 4 + x / per) (mod-lt x some) in
-      let low : (i - at) % per ≡ x % per = ap (λ (n : ℕ). n % per) e ∙ digits-mod (q * 4 + x / per) (mod-lt x some) in
-      let word : (q * 4 + x / per) / 4 ≡ q = omega arith in
-      let byte : (q * 4 + x / per) % 4 ≡ x / per = omega arith in
-      rw (here, low, word, byte)
+      let b : (i - k) / per < 4 = div-lt-iff-lt-mul some .1 (omega arith) in
+      let e : i - at ≡ q * 4 * per + (i - k) = omega arith in
+      let word : (q * 4 + (i - k) / per) / 4 ≡ q = omega arith in
+      let byte : (q * 4 + (i - k) / per) % 4 ≡ (i - k) / per = omega arith in
+      rw (past-bytes (i - at) per (q * 4) (i - k) e some, past-pixels (i - at) per (q * 4) (i - k) e, word, byte)
 
   -- One word more is painted.
   pub word-turn : (o p r : List ℕ) → k + 4 * per ≤ length o → Paints 0 o p at k (from at (wordsInk table ws per))

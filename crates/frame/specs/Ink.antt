@@ -18,6 +18,7 @@ use Rattle.frame.specs.Cell.{plainCode, covered}
 unfoldable pub from : ℕ → (ℕ → ℕ) → ℕ → ℕ
 from at rule k = rule (k - at)
 
+-- Cell j of a list.
 unfoldable pub cellIn : List ℕ → ℕ → ℕ
 cellIn cells j = getD cells j 0
 
