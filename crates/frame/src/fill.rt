@@ -4,7 +4,7 @@ ghost use Prim.Native.Nat.{_≤_};
 ghost use lib.ListN.{length};
 ghost use Rattle.buffers.specs.Painted.{painted};
 
-fn lay(out: &mut [u16], a: usize, b: usize, cell: u16)
+pub fn fill(out: &mut [u16], a: usize, b: usize, cell: u16)
     requires { ⌜ (a ≤ b) × (b ≤ length (now out)) ⌝ }
     ensures { λ _. ⌜ now (out .exit) ≡ painted (now (out .entry)) a b (λ k. cell) ⌝ }
 {
@@ -13,17 +13,4 @@ fn lay(out: &mut [u16], a: usize, b: usize, cell: u16)
         out[k] = cell;
         k += 1;
     }
-}
-
-// 64 cells at a time, of which the machine's code makes eight stores and no loop, and then the rest.
-pub fn fill(out: &mut [u16], a: usize, b: usize, cell: u16)
-    requires { ⌜ (a ≤ b) × (b ≤ length (now out)) ⌝ }
-    ensures { λ _. ⌜ now (out .exit) ≡ painted (now (out .entry)) a b (λ k. cell) ⌝ }
-{
-    let mut k = a;
-    while 64 <= b - k {
-        lay(out, k, k + 64, cell);
-        k += 64;
-    }
-    lay(out, k, b, cell);
 }

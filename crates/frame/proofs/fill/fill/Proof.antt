@@ -1,6 +1,7 @@
 use native.Mathlib.Omega.{arith}
 use Prim.Native.Nat.{_-_, _≤_}
-use Rattle.buffers.proofs.Paints.{Paints, paint-none, paint-next, paints-of, paints-painted}
+use mathlib.Core.Path.{_≡_, refl}
+use Rattle.buffers.proofs.Paints.{Paints, paint-none, paint-more, paints-painted}
 use borrow.Author.Needs.{needs}
 use Rattle.frame.proofs.fill.fill.Statement.{statement}
 use Rattle.frame.proofs.fill.fill.Tie as tie
@@ -14,14 +15,11 @@ abbrev μ-loop : tie.MeasureT-loop
 loop-holds : tie.Need-loop-holds Inv-loop μ-loop
 loop-holds c = (omega arith, omega arith, paint-none _ _)
 
-sub-loop : tie.Need-sub-loop Inv-loop μ-loop
-sub-loop c = search needs
+mul-out : tie.Need-mul-out Inv-loop μ-loop
+mul-out c = search needs
 
-add-lay : tie.Need-add-lay Inv-loop μ-loop
-add-lay c = search needs
-
-lay-requires : tie.Need-lay-requires Inv-loop μ-loop
-lay-requires c κs = (omega arith, omega (arith, c .before .before .loop .inv .2 .len, c .before .before .before .before .pre .1))
+slice-write-out : tie.Need-slice-write-out Inv-loop μ-loop
+slice-write-out c = search needs
 
 add-k : tie.Need-add-k Inv-loop μ-loop
 add-k c = search needs
@@ -30,16 +28,15 @@ loop-less : tie.Need-loop-less Inv-loop μ-loop
 loop-less c = search needs
 
 loop-again : tie.Need-loop-again Inv-loop μ-loop
-loop-again c = (omega arith, omega arith, paint-next (c .before .before .before .before .before .loop .inv .0) (omega arith) (c .before .before .before .before .before .loop .inv .2) (paints-of (omega (arith, c .before .before .before .before .before .loop .inv .2 .len, c .before .before .before .before .before .before .before .pre .1)) (c .before .before .lay .ensures)))
-
-lay-requires-2 : tie.Need-lay-requires-2 Inv-loop μ-loop
-lay-requires-2 c κs = (c .before .before .loop .inv .1, omega (arith, c .before .before .loop .inv .2 .len, c .before .before .before .before .pre .1))
+loop-again c = (omega arith, omega arith, paint-more _ (omega arith) (omega arith) refl (c .before .loop .inv .2))
 
 same-length : tie.Need-same-length Inv-loop μ-loop
-same-length c = search needs
+same-length c = c .before .loop .inv .2 .len
 
 returns : tie.Need-returns Inv-loop μ-loop
-returns c = paints-painted (c .before .before .before .before .before .before .before .pre .1) (paint-next (c .before .before .before .before .before .loop .inv .0) (c .before .before .before .before .before .loop .inv .1) (c .before .before .before .before .before .loop .inv .2) (paints-of (omega (arith, c .before .before .before .before .before .loop .inv .2 .len, c .before .before .before .before .before .before .before .pre .1)) (c .before .before .lay2 .ensures)))
+returns c = let s = c .before .before in
+    let e : c .before .loop .k ≡ s .args .b = omega arith in
+    paints-painted (s .pre .1) (rw e at (c .before .loop .inv .2))
 
 pub fill-spec : {M : Type 1} → statement M
 fill-spec =
@@ -48,12 +45,10 @@ fill-spec =
     Inv-loop
     μ-loop
     loop-holds
-    sub-loop
-    add-lay
-    lay-requires
+    mul-out
+    slice-write-out
     add-k
     loop-less
     loop-again
-    lay-requires-2
     same-length
     returns)
