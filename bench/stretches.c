@@ -1,5 +1,5 @@
-// A frame by stretches, as ours is painted: no cell twice but for the cursor's, the display by whole words through a
-// table of cells, depth 1 by a choice of two.
+// A frame by stretches: no cell twice but for the cursor's, the display by whole words through a table of one cell a pixel,
+// depth 1 by a choice of two.
 #include "bench.h"
 
 static void fill(uint16_t *restrict out, uint32_t from, uint32_t to, uint16_t cell) {
