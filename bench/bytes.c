@@ -1,4 +1,4 @@
-// The fastest C we know: as stretches.c, but the table holds the cells of all pixels of a byte, and they are copied at once.
+// As ours is painted: as stretches.c, but the table holds the cells of all pixels of a byte, and they are copied at once.
 #include "paint.h"
 #include <string.h>
 

@@ -1,5 +1,5 @@
-// A frame by stretches, as ours is painted: no cell twice but for the cursor's, the display by whole words through a
-// table of cells, depth 1 by a choice of two.
+// A frame by stretches: no cell twice but for the cursor's, the display by whole words through a table of one cell a pixel,
+// depth 1 by a choice of two.
 #include "paint.h"
 
 // The pixels of a raster's words, d bits each; d is a literal where this is called.
