@@ -51,6 +51,20 @@ impl Line {
         line
     }
 
+    // Entry k of a table of sixteen, each of four letters, spaces left out.
+    pub fn entry(self, table: &[u8; 64], k: usize) -> Line {
+        let mut line = self;
+        let mut i = 0;
+        while i < 4 {
+            let letter = table[4 * (k % 16) + i];
+            if letter != b' ' {
+                line = line.letter(letter);
+            }
+            i += 1;
+        }
+        line
+    }
+
     // Spaces up to a column, where the line does not reach it.
     pub fn column(mut self, column: usize) -> Line {
         if (self.end < column) & (column <= Self::MOST) {

@@ -1,4 +1,4 @@
-// A plate on standard input, and on standard output what is in it, for people. All that is judged is proved in the library.
+// A plate on standard input, and on standard output what is in it, for people. What is judged is proved in the library.
 mod line;
 mod meaning;
 mod names;

@@ -51,21 +51,19 @@ fn print_judged(words: &[u32], video: &[u32], cursor: &[u32]) -> bool {
     }
 }
 
-// The head of a plate file, its register words and what is made of them.
-fn print_parts(bytes: usize, words: &[u32], video: &[u32], cursor: &[u32], sound: &[u32]) -> bool {
+// The length of a plate file, and how many words each section has.
+fn print_head(bytes: usize, registers: usize, video: usize, cursor: usize, sound: usize) -> bool {
     Line::new()
         .count(bytes, b" byte")
         .text(b": ")
-        .count(words.len(), b" register word")
+        .count(registers, b" register word")
         .text(b", ")
-        .count(video.len(), b" video word")
+        .count(video, b" video word")
         .text(b", ")
-        .count(cursor.len(), b" cursor word")
+        .count(cursor, b" cursor word")
         .text(b", ")
-        .count(sound.len(), b" sound word")
+        .count(sound, b" sound word")
         .print()
-        && print_words(words)
-        && print_judged(words, video, cursor)
 }
 
 // A plate file by its words and its trailer.
@@ -75,13 +73,13 @@ fn print_sections(bytes: usize, words: &[u32], r: usize, v: usize, c: usize, s: 
     let video = r - v;
     let cursor = r - c;
     let sound = r - s;
-    print_parts(
-        bytes,
-        &words[0..video],
-        &words[video..cursor],
-        &words[cursor..sound],
-        &words[sound..r],
-    )
+    print_head(bytes, video, v - c, c - s, s)
+        && print_words(&words[0..video])
+        && print_judged(
+            &words[0..video],
+            &words[video..cursor],
+            &words[cursor..sound],
+        )
 }
 
 // A plate file taken apart.
@@ -100,18 +98,21 @@ fn print_file(plate: &[u8], p: Sections) -> bool
     )
 }
 
-// What is no plate file.
-fn print_no_plate(line: Line, why: Refusal) -> bool {
+// A file that is not taken apart, and why.
+fn print_untaken(head: Line, why: Refusal) -> bool {
     let words = [0u32; 1];
-    line.text(b": no plate file").print() && print_refused(why, &words[0..0])
+    head.print() && print_refused(why, &words[0..0])
 }
 
 pub fn print_plate(plate: &[u8]) -> bool {
     if MOST_INPUT < plate.len() {
-        return print_no_plate(Line::new().text(b"over 65,536 bytes"), Refusal::TooLarge);
+        return print_untaken(Line::new().text(b"over 65,536 bytes: too long"), Refusal::TooLarge);
     }
     match plates::read(plate) {
-        Reading::Refused(why) => print_no_plate(Line::new().count(plate.len(), b" byte"), why),
+        Reading::Refused(why) => {
+            let head = Line::new().count(plate.len(), b" byte");
+            print_untaken(head.text(b": no plate file"), why)
+        }
         Reading::Plate(p) => print_file(plate, p),
     }
 }

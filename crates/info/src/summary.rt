@@ -61,7 +61,11 @@ fn put_needed(line: Line, needed: u64, present: usize) -> Line {
 
 // The two lines, and whether they were written; `video` and `cursor` are how many words the plate has.
 pub fn print_setting(g: Registers, s: Setting, video: usize, cursor: usize) -> bool {
-    let line = Line::new().text(b"setting: ").small(s.n.0).text(b" x ").small(s.v.0);
+    let line = Line::new()
+        .text(b"setting: ")
+        .small(s.n.0)
+        .text(b" x ")
+        .small(s.v.0);
     let line = put_depth(line.text(b" cells, "), s.depth)
         .text(b", ")
         .number(g.entries_in_use() as u64)

@@ -1,8 +1,6 @@
 // Values in words: colours, positions, sixths, rates, the control bits.
 use crate::line::Line;
 use registers::record::Registers;
-use registers::units::Pixels;
-use registers::units::Rasters;
 use sound::Pairing;
 
 // A sound byte of amplitude 1: its two values are the sixths themselves.
@@ -23,14 +21,6 @@ pub fn put_colour(line: Line, colour: u16) -> Line {
 
 pub fn put_depth(line: Line, depth: u8) -> Line {
     line.text(b"depth ").number(depth as u64)
-}
-
-pub fn put_pixels(line: Line, name: &[u8], x: Pixels) -> Line {
-    line.text(name).text(b" = ").count(x.0 as usize, b" pixel")
-}
-
-pub fn put_rasters(line: Line, name: &[u8], y: Rasters) -> Line {
-    line.text(name).text(b" = ").count(y.0 as usize, b" raster")
 }
 
 fn put_sixths(line: Line, side: &[u8], sixths: i16) -> Line {

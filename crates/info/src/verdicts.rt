@@ -27,7 +27,8 @@ fn put_vertical(line: Line, s: Setting) -> Line {
 }
 
 fn put_width(line: Line, s: Setting) -> Line {
-    let line = line.text(b"(DE-DS) x depth not a multiple of 32: DE ").small(s.de.0);
+    let line = line.text(b"(DE-DS) x depth not a multiple of 32: DE ")
+        .small(s.de.0);
     put_depth(line.text(b", DS ").small(s.ds.0).text(b", "), s.depth)
 }
 
@@ -50,24 +51,30 @@ fn put_wrong_sound(line: Line, address: u32) -> Line {
     line.text(b" is 0")
 }
 
+// The rule of a refusal that says no more; 12 and 13 are of calls that are not made here.
+fn put_plain_rule(line: Line, number: u32) -> Line {
+    match number {
+        1 => line.text(b"over 1,024 register words"),
+        4 => line.text(b"control bit 14 or 15 set"),
+        5 => line.text(b"interlace set"),
+        9 => line.text(b"cursor on, and sub-position not 0 or VCE > V"),
+        11 => line.text(b"video or cursor word count wrong"),
+        14 => line.text(b"file length or trailer wrong"),
+        15 => line.text(b"over 65,536 bytes"),
+        _ => line,
+    }
+}
+
 // The rule that a refusal stands for, with what broke it.
 fn put_rule(line: Line, why: Refusal, s: Setting, words: &[u32]) -> Line {
     match why {
-        Refusal::TooManyWords => line.text(b"over 1,024 register words"),
         Refusal::Reserved(index) => put_reserved(line, words, index),
         Refusal::Unwritten(address) => put_register(line, address).text(b" was never written"),
-        Refusal::TestMode => line.text(b"control bit 14 or 15 set"),
-        Refusal::Interlace => line.text(b"interlace set"),
+        Refusal::Sound(address) => put_wrong_sound(line, address),
         Refusal::Horizontal => put_horizontal(line, s),
         Refusal::Vertical => put_vertical(line, s),
         Refusal::Width => put_width(line, s),
-        Refusal::Cursor => line.text(b"cursor on, and sub-position not 0 or VCE > V"),
-        Refusal::Sound(address) => put_wrong_sound(line, address),
-        Refusal::WordCount => line.text(b"video or cursor word count wrong"),
-        Refusal::Raster => line.text(b"raster number not below V"),
-        Refusal::Short => line.text(b"lent buffer too short"),
-        Refusal::PlateFile => line.text(b"file length or trailer wrong"),
-        Refusal::TooLarge => line.text(b"over 65,536 bytes"),
+        _ => put_plain_rule(line, why.number()),
     }
 }
 

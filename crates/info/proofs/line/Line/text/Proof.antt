@@ -13,30 +13,23 @@ Inv-loop text line₀ k₀ line k = k ≤ length text
 abbrev μ-loop : tie.MeasureT-loop
 μ-loop text line₀ k₀ line k = length text - k
 
-
 loop-holds : tie.Need-loop-holds Inv-loop μ-loop
 loop-holds c = search needs
-
 
 shared-slice-read-letter : tie.Need-shared-slice-read-letter Inv-loop μ-loop
 shared-slice-read-letter c = search needs
 
-
 letter-requires : tie.Need-letter-requires Inv-loop μ-loop
 letter-requires c κs = search needs
-
 
 add-k : tie.Need-add-k Inv-loop μ-loop
 add-k c = search needs
 
-
 loop-less : tie.Need-loop-less Inv-loop μ-loop
 loop-less c = search needs
 
-
 loop-again : tie.Need-loop-again Inv-loop μ-loop
 loop-again c = search needs
-
 
 returns : tie.Need-returns Inv-loop μ-loop
 returns c = search needs
