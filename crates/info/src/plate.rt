@@ -106,7 +106,10 @@ fn print_untaken(head: Line, why: Refusal) -> bool {
 
 pub fn print_plate(plate: &[u8]) -> bool {
     if MOST_INPUT < plate.len() {
-        return print_untaken(Line::new().text(b"over 65,536 bytes: too long"), Refusal::TooLarge);
+        return print_untaken(
+            Line::new().text(b"over 65,536 bytes: too long"),
+            Refusal::TooLarge,
+        );
     }
     match plates::read(plate) {
         Reading::Refused(why) => {

@@ -4,36 +4,25 @@ use native.Mathlib.Omega.{arith}
 use borrow.Author.Needs.{needs}
 use Rattle.info.proofs.line.write.Statement.{statement}
 use Rattle.info.proofs.line.write.Tie as tie
-use Rattle.info.proofs.line.write.Reads as reads
-use Rattle.info.proofs.line.write.Lts as lts
-use Rattle.io.proofs.write_all.Reads as write-all-reads
-use Rattle.os.proofs.fail.Reads as fail-reads
 
--- src/line.rt:13:9
 returns : tie.Need-returns
 returns c = search needs
 
--- src/line.rt:15:51
 slice-aggregate-write-all : tie.Need-slice-aggregate-write-all
 slice-aggregate-write-all c = sym (length-take-le _ _ (omega arith))
 
--- src/line.rt:15:9
 write-all-requires : tie.Need-write-all-requires
 write-all-requires c κs = search needs
 
--- src/line.rt:17:18
 slice-aggregate-fail : tie.Need-slice-aggregate-fail
 slice-aggregate-fail c = search needs
 
--- src/line.rt:17:9
 fail-requires : tie.Need-fail-requires
 fail-requires c κs = search needs
 
--- src/line.rt:11:1
 returns-2 : tie.Need-returns-2
 returns-2 c = search needs
 
--- src/line.rt:11:1
 returns-3 : tie.Need-returns-3
 returns-3 c = search needs
 

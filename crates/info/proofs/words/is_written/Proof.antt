@@ -3,9 +3,6 @@ use Prim.Native.Nat.{_-_, _≤_}
 use borrow.Author.Needs.{needs}
 use Rattle.info.proofs.words.is_written.Statement.{statement}
 use Rattle.info.proofs.words.is_written.Tie as tie
-use Rattle.info.proofs.words.is_written.Reads as reads
-use Rattle.info.proofs.words.is_written.Lts as lts
-use Rattle.info.proofs.words.address_of.Reads as address-of-reads
 
 abbrev Inv-loop : tie.InvT-loop
 Inv-loop words address k₀ k = k ≤ length words

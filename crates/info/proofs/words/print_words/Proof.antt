@@ -3,10 +3,6 @@ use Prim.Native.Nat.{_-_, _≤_}
 use borrow.Author.Needs.{needs}
 use Rattle.info.proofs.words.print_words.Statement.{statement}
 use Rattle.info.proofs.words.print_words.Tie as tie
-use Rattle.info.proofs.words.print_words.Reads as reads
-use Rattle.info.proofs.words.print_words.Lts as lts
-use Rattle.info.proofs.words.print_word.Reads as print-word-reads
-use Rattle.info.proofs.words.stored.Reads as stored-reads
 
 abbrev Inv-loop : tie.InvT-loop
 Inv-loop words g k₀ k = k ≤ length words
@@ -14,63 +10,48 @@ Inv-loop words g k₀ k = k ≤ length words
 abbrev μ-loop : tie.MeasureT-loop
 μ-loop words g k₀ k = length words - k
 
--- src/words.rt:55:9
 stored-requires : tie.Need-stored-requires Inv-loop μ-loop
 stored-requires c κs = search needs
 
--- src/words.rt:57:5
 loop-holds : tie.Need-loop-holds Inv-loop μ-loop
 loop-holds c = search needs
 
--- src/words.rt:58:27
 mul-print-word : tie.Need-mul-print-word Inv-loop μ-loop
 mul-print-word c = search needs
 
--- src/words.rt:58:27
 shared-slice-read-print-word : tie.Need-shared-slice-read-print-word Inv-loop μ-loop
 shared-slice-read-print-word c = search needs
 
--- src/words.rt:58:44
 add-print-word : tie.Need-add-print-word Inv-loop μ-loop
 add-print-word c = search needs
 
--- src/words.rt:58:37
 mul-print-word-2 : tie.Need-mul-print-word-2 Inv-loop μ-loop
 mul-print-word-2 c = search needs
 
--- src/words.rt:58:37
 sub-print-word : tie.Need-sub-print-word Inv-loop μ-loop
 sub-print-word c = search needs
 
--- src/words.rt:58:37
 part-print-word-start : tie.Need-part-print-word-start Inv-loop μ-loop
 part-print-word-start c = search needs
 
--- src/words.rt:58:37
 part-print-word-end : tie.Need-part-print-word-end Inv-loop μ-loop
 part-print-word-end c = search needs
 
--- src/words.rt:58:13
 print-word-requires : tie.Need-print-word-requires Inv-loop μ-loop
 print-word-requires c κs = search needs
 
--- src/words.rt:59:13
 returns : tie.Need-returns Inv-loop μ-loop
 returns c = search needs
 
--- src/words.rt:61:9
 add-k : tie.Need-add-k Inv-loop μ-loop
 add-k c = search needs
 
--- src/words.rt:57:5
 loop-less : tie.Need-loop-less Inv-loop μ-loop
 loop-less c = search needs
 
--- src/words.rt:57:5
 loop-again : tie.Need-loop-again Inv-loop μ-loop
 loop-again c = search needs
 
--- src/words.rt:54:1
 returns-2 : tie.Need-returns-2 Inv-loop μ-loop
 returns-2 c = search needs
 

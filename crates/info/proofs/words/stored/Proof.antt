@@ -3,10 +3,6 @@ use Prim.Native.Nat.{_-_, _≤_}
 use borrow.Author.Needs.{needs}
 use Rattle.info.proofs.words.stored.Statement.{statement}
 use Rattle.info.proofs.words.stored.Tie as tie
-use Rattle.info.proofs.words.stored.Reads as reads
-use Rattle.info.proofs.words.stored.Lts as lts
-use Rattle.registers.proofs.record.Registers.new.Reads as new-reads
-use Rattle.registers.proofs.record.Registers.store.Reads as store-reads
 
 abbrev Inv-loop : tie.InvT-loop
 Inv-loop words g₀ k₀ g k = k ≤ length words

@@ -3,9 +3,6 @@ use Prim.Native.Nat.{_-_, _≤_}
 use borrow.Author.Needs.{needs}
 use Rattle.info.proofs.line.Line.text.Statement.{statement}
 use Rattle.info.proofs.line.Line.text.Tie as tie
-use Rattle.info.proofs.line.Line.text.Reads as reads
-use Rattle.info.proofs.line.Line.text.Lts as lts
-use Rattle.info.proofs.line.Line.letter.Reads as letter-reads
 
 abbrev Inv-loop : tie.InvT-loop
 Inv-loop text line₀ k₀ line k = k ≤ length text
