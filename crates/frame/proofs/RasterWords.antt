@@ -3,7 +3,7 @@ use Prim.Native.Nat.{ℕ, _+_, _*_, _-_, _/_, _<_, _≤_}
 use mathlib.Core.Path.{_≡_, sym, ap, _∙_}
 use mathlib.Core.List.{List}
 use mathlib.Core.Logic.{inl, inr}
-use native.Mathlib.Nat.{mul-assoc, mul-le-mul-right, eq-of-mul-eq-mul-right, mul-le-mul}
+use native.Mathlib.Nat.{mul-assoc, mul-le-mul-right, eq-of-mul-eq-mul-right, mul-le-mul, div-lt-iff-lt-mul}
 use native.Mathlib.Omega.{arith}
 use borrow.Author.Tests.{lt-ltb}
 use lib.ListN.{length, take, drop, length-take, length-drop}
@@ -11,11 +11,11 @@ use Rattle.buffers.specs.Painted.{painted}
 use Rattle.buffers.proofs.Paints.{paint-as, paints-of, paints-painted}
 use Rattle.registers.specs.Setting.{videoWords}
 use Rattle.registers.specs.declared.setting.Setting.{Setting}
-use Rattle.frame.specs.Pixel.{pixel, rasterWords, firstWord}
+use Rattle.frame.specs.Pixel.{rasterWords, firstWord}
 use Rattle.registers.proofs.Accepted.{Depth, Accepted}
 use Rattle.registers.proofs.Words.{depth-least, depth-most, raster-bits, raster-most, video-rasters}
 use Rattle.frame.specs.Lent.{Raster}
-use Rattle.frame.proofs.PixelPlaces.{pixel-part}
+use Rattle.frame.proofs.PixelPlaces.{per-least, past-bytes, past-pixels, byte-part}
 use Rattle.frame.specs.Ink.{from, wordsInk, displayInk}
 
 -- 32/d pixels of d bits fill a word.
@@ -25,10 +25,21 @@ fills-word (inr (inl e)) = rw e
 fills-word (inr (inr (inl e))) = rw e
 fills-word (inr (inr (inr e))) = rw e
 
--- Pixel j of the words of raster r, m words to a raster.
-pub pixel-row : (ws : List ℕ) (d n m r j : ℕ) → n * d ≡ 32 → 0 < d → j < m * n → pixel (take m (drop (r * m) ws)) d j ≡ pixel ws d (r * (m * n) + j)
-pixel-row ws d n m r j e pos h =
-    pixel-part ws d (r * (m * n) + j) j (r * m) m (omega (arith, ap (λ (k : ℕ). r * m * k) e)) (omega (arith, mul-le-mul-right d h, ap (λ (k : ℕ). m * k) e))
+pub four-bytes : {d : ℕ} → Depth d → 32 / d ≡ 4 * (8 / d)
+four-bytes (inl e) = rw e
+four-bytes (inr (inl e)) = rw e
+four-bytes (inr (inr (inl e))) = rw e
+four-bytes (inr (inr (inr e))) = rw e
+
+-- Pixel j of the words of raster r, m words to a raster and per pixels to a byte.
+row-same : (table ws : List ℕ) (per m r j : ℕ) → 0 < per → j < m * (4 * per)
+    → wordsInk table (take m (drop (r * m) ws)) per j ≡ wordsInk table ws per (r * (m * (4 * per)) + j)
+unfolding wordsInk
+row-same table ws per m r j some h =
+    let b : j / per < m * 4 = div-lt-iff-lt-mul some .1 (omega arith) in
+    let n = r * (m * (4 * per)) + j in
+    let e : n ≡ r * m * 4 * per + j = omega arith in
+    rw (past-bytes n per (r * m * 4) j e some, past-pixels n per (r * m * 4) j e, byte-part ws (r * m) m (j / per) b)
 
 module _ (s : Setting) (r : Accepted s) where
   -- Words to a raster, and pixels to its words.
@@ -60,17 +71,17 @@ module _ (s : Setting) (r : Accepted s) where
       omega (arith, mul-le-mul-right (rasterWords s) h, frame-words (omega arith))
 
   raster-same : (table video : List ℕ) (y at k : ℕ) → at + s .ds .0 ≤ k → k < at + s .de .0
-      → from (at + s .ds .0) (wordsInk table (take (rasterWords s) (drop (firstWord s y) video)) (s .depth)) k ≡ from at (displayInk s table video y) k
-  unfolding from wordsInk displayInk firstWord
+      → from (at + s .ds .0) (wordsInk table (take (rasterWords s) (drop (firstWord s y) video)) (8 / s .depth)) k ≡ from at (displayInk s table video y) k
+  unfolding from displayInk firstWord
   raster-same table video y at k p q =
       let j : k - (at + s .ds .0) ≡ k - at - s .ds .0 = omega arith in
-      let h : k - at - s .ds .0 < rasterWords s * (32 / s .depth) = omega (arith, whole-pixels) in
-      rw (j, pixel-row video (s .depth) (32 / s .depth) (rasterWords s) (y - s .vds .0) (k - at - s .ds .0) (fills-word (r .depth)) (depth-least (r .depth)) h, whole-pixels)
+      let n : rasterWords s * (4 * (8 / s .depth)) ≡ s .de .0 - s .ds .0 = rw (← four-bytes (r .depth)) whole-pixels in
+      rw (j, row-same table video (8 / s .depth) (rasterWords s) (y - s .vds .0) (k - at - s .ds .0) (per-least (r .depth)) (omega arith), n)
 
   -- The display's stretch is painted: what `shown` makes of the raster's words.
   pub display-law : (table video o p : List ℕ) (at y ds first last : ℕ) → at + s .n .0 ≤ length o → ds ≡ s .ds .0
       → first ≡ firstWord s y → last ≡ first + rasterWords s → firstWord s y + rasterWords s ≤ length video
-      → p ≡ painted o (at + ds) (at + ds + length (take (last - first) (drop first video)) * (32 / s .depth)) (from (at + ds) (wordsInk table (take (last - first) (drop first video)) (s .depth)))
+      → p ≡ painted o (at + ds) (at + ds + length (take (last - first) (drop first video)) * (32 / s .depth)) (from (at + ds) (wordsInk table (take (last - first) (drop first video)) (8 / s .depth)))
       → p ≡ painted o (at + s .ds .0) (at + s .de .0) (from at (displayInk s table video y))
   display-law table video o p at y ds first last room e-ds e-first e-last fits e =
       let n : last - first ≡ rasterWords s = omega arith in

@@ -1,28 +1,33 @@
 -- The rule over cells made ready is the cell rule.
 use Prim.Native.Nat.{ℕ, zero, suc, _+_, _*_, _-_, _/_, _%_, _^_, _<_, _≤_}
 use mathlib.Core.Bool.{Bool, true, false, _&&_, not}
-use mathlib.Core.Path.{_≡_, refl}
+use mathlib.Core.Path.{_≡_, refl, sym, ap, _∙_}
 use mathlib.Core.List.{List}
 use mathlib.Core.Logic.{inl, inr}
-use native.Mathlib.Nat.{mod-eq-of-lt, one-mul, sub-zero, zero-add}
+use native.Mathlib.Nat.{mod-eq-of-lt, mod-lt, one-mul, sub-zero, zero-add}
 use native.Mathlib.Omega.{arith}
 use borrow.Author.Tests.{not-true, eqb-false}
+use lib.Arith.{digits-div, digits-mod}
 use lib.Dec.{ltb, leb, eqb}
 use lib.ListN.{length, getD, replicate, length-replicate}
-use lib.Pow.{pow-mono}
+use lib.Pow.{pow-mono, pow-pos}
 use Rattle.buffers.specs.Pick.{pick}
 use Rattle.buffers.specs.Painted.{painted}
+use Rattle.buffers.specs.Words.{byteOf}
 use Rattle.buffers.proofs.Paints.{paint-as, paints-of, paints-painted}
 use Rattle.buffers.proofs.Split.{true-or-false}
 use Rattle.buffers.proofs.Tests.{and-split}
 use Rattle.registers.specs.Colours.{borderOf, cursorOf}
+use Rattle.registers.proofs.Accepted.{Depth}
+use Rattle.registers.proofs.Words.{depth-most}
 use Rattle.registers.specs.declared.record.Registers.{Registers}
 use Rattle.registers.specs.declared.setting.Setting.{Setting}
 use Rattle.colours.specs.Colour.{colourOf}
 use Rattle.frame.specs.Pixel.{position, logical, cursorPair}
 use Rattle.frame.specs.Cell.{inDisplay, inBorder, inCursor, plainCode, covered, code, cell}
-use Rattle.frame.specs.Ink.{from, plainInk, ink, frameInk, shade, pensOf}
-use Rattle.frame.proofs.PixelPlaces.{pixel-below}
+use Rattle.frame.specs.Ink.{from, byteInk, bytesInk, wordsInk, displayInk, plainInk, ink, frameInk, shade, pensOf}
+use Rattle.frame.proofs.PixelPlaces.{per-least, per-most, pixel-byte}
+use Rattle.frame.proofs.Words.{part-room}
 use Rattle.frame.specs.Frame.{cells, frameCell, rasterCell}
 
 -- How many logical pixels there are, as the machine reckons it.
@@ -36,9 +41,12 @@ pub shade-is : (g : Registers) (d p c : ℕ) → c ≡ colourOf g d p → 5 * 81
 unfolding shade
 shade-is g d p c e = rw e
 
--- A table is right where it has each logical pixel's cell.
+-- Shades are right where they have each logical pixel's cell, and a table where it has those of each byte's pixels.
 abbrev pub Shades : Registers → ℕ → List ℕ → Type 0
-Shades g d table = (p : ℕ) → p < 2 ^ d → getD table p 0 ≡ shade g d p
+Shades g d shades = (p : ℕ) → p < 2 ^ d → getD shades p 0 ≡ shade g d p
+
+abbrev pub Bytes : Registers → ℕ → List ℕ → Type 0
+Bytes g d table = (b j : ℕ) → b < 256 → j < 8 / d → getD table (b * (8 / d) + j) 0 ≡ shade g d (b / 2 ^ (j * d) % 2 ^ d)
 
 pen-at : (g : Registers) (p : ℕ) → p < 4 → (p ≡ 0 → ⊥) → getD (pensOf g) p 0 ≡ 6 * 8192 + cursorOf g p
 unfolding pensOf
@@ -64,10 +72,14 @@ by-tests false false true e t p q w c f g = f
 by-tests false false false true t p q w c f g = g
 by-tests false false false false t p q w c f g = refl
 
-module _ (g : Registers) (s : Setting) (table video cursor : List ℕ) (x y : ℕ) (right : Shades g (s .depth) table) where
-  pixel-cell : getD table (logical s video x y) 0 ≡ 5 * 8192 + colourOf g (s .depth) (logical s video x y)
-  unfolding shade
-  pixel-cell = right (logical s video x y) (pixel-below video (s .depth) (position s x y))
+module _ (g : Registers) (s : Setting) (table video cursor : List ℕ) (x y : ℕ) (depth : Depth (s .depth)) (right : Bytes g (s .depth) table) where
+  pixel-cell : displayInk s table video y x ≡ 5 * 8192 + colourOf g (s .depth) (logical s video x y)
+  unfolding displayInk wordsInk shade
+  pixel-cell =
+      let i = position s x y in
+      let per = 8 / s .depth in
+      right (byteOf video (i / per)) (i % per) (mod-lt _ (omega arith)) (mod-lt i (per-least depth))
+      ∙ ap (λ (p : ℕ). shade g (s .depth) p) (sym (pixel-byte video (s .depth) i depth))
 
   pair-below : cursorPair s cursor y (x - s .cx .0) < 4
   unfolding cursorPair
@@ -91,15 +103,27 @@ module _ (g : Registers) (s : Setting) (table video cursor : List ℕ) (x y : �
       over : covered s cursor x y ≡ true → getD (pensOf g) (cursorPair s cursor y (x - s .cx .0)) 0 ≡ 6 * 8192 + cursorOf g (cursorPair s cursor y (x - s .cx .0))
       over e = pen-at g (cursorPair s cursor y (x - s .cx .0)) pair-below (eqb-false _ _ (pair-shown e))
 
--- What `shades` makes is right.
-pub shades-right : (g : Registers) (d : ℕ) (table : List ℕ) → d ≤ 8 → table ≡ painted (replicate 256 0) 0 (2 ^ d) (shade g d) → Shades g d table
-shades-right g d table h e p b =
+-- What `shades` makes is right, and so is what `bytes` makes of it.
+shades-right : (g : Registers) (d : ℕ) (shades : List ℕ) → d ≤ 8 → shades ≡ painted (replicate 256 0) 0 (2 ^ d) (shade g d) → Shades g d shades
+shades-right g d shades h e p b =
     paints-of {d = 0} {l = replicate 256 0} (omega (arith, pow-mono h, length-replicate {A = ℕ} 256 0)) e .on p (omega arith) b
 
-module _ (g : Registers) (s : Setting) (pens table video cursor o p : List ℕ) (few : s .depth ≤ 8)
-    (pens-is : pens ≡ pensOf g) (table-is : table ≡ painted (replicate 256 0) 0 (2 ^ s .depth) (shade g (s .depth))) where
+bytes-right : (g : Registers) (d : ℕ) (shades table : List ℕ) → Depth d → Shades g d shades
+    → table ≡ painted (replicate 2048 0) 0 (256 * (8 / d)) (bytesInk shades (8 / d) d) → Bytes g d table
+unfolding bytesInk byteInk
+bytes-right g d shades table depth right e b j h l =
+    paints-of {d = 0} {l = replicate 2048 0} {f = bytesInk shades (8 / d) d} (omega (arith, per-most depth, length-replicate {A = ℕ} 2048 0)) e
+    .on (b * (8 / d) + j) (omega arith) (omega (arith, part-room b 256 (8 / d) h))
+    ∙ rw (digits-div b l, digits-mod b l) (right (b / 2 ^ (j * d) % 2 ^ d) (mod-lt _ (pow-pos d)))
+
+module _ (g : Registers) (s : Setting) (pens shades table video cursor o p : List ℕ) (depth : Depth (s .depth))
+    (pens-is : pens ≡ pensOf g) (shades-is : shades ≡ painted (replicate 256 0) 0 (2 ^ s .depth) (shade g (s .depth)))
+    (table-is : table ≡ painted (replicate 2048 0) 0 (256 * (8 / s .depth)) (bytesInk shades (8 / s .depth) (s .depth))) where
   same : (x y : ℕ) → ink s pens table video cursor y x ≡ cell g s video cursor x y
-  same x y = rw pens-is (ink-cell g s table video cursor x y (shades-right g (s .depth) table few table-is))
+  same x y =
+      rw pens-is
+      (ink-cell g s table video cursor x y depth
+      (bytes-right g (s .depth) shades table depth (shades-right g (s .depth) shades (depth-most depth) shades-is) table-is))
 
   pub frame-law : cells s ≤ length o → p ≡ painted o 0 (cells s) (frameInk s pens table video cursor)
       → p ≡ painted o 0 (cells s) (frameCell g s video cursor)

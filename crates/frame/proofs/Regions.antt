@@ -12,10 +12,9 @@ use Rattle.buffers.proofs.Tests.{and-split}
 use Rattle.buffers.proofs.Split.{lt-or-le, is-false}
 use Rattle.registers.specs.Setting.{displayOn, borderOn}
 use Rattle.registers.specs.declared.setting.Setting.{Setting}
-use Rattle.frame.specs.Pixel.{logical}
 use Rattle.frame.specs.Cell.{within, inDisplay, inBorder, plainCode}
 use Rattle.registers.proofs.Accepted.{Accepted}
-use Rattle.frame.specs.Ink.{plainInk, blankOf}
+use Rattle.frame.specs.Ink.{displayInk, plainInk, blankOf}
 
 pub within-true : (a b k : ℕ) → within a b k ≡ true → (a ≤ k) × (k < b)
 within-true a b k e =
@@ -94,7 +93,7 @@ module _ (s : Setting) (pens table video : List ℕ) (x y : ℕ) where
       let o = border-shown s r x y i in
       rw (le-ltb x (s .hs .0) (o .0), le-ltb y (s .vs .0) (o .1), d, inside-border s x y i)
 
-  pub display-ink : Accepted s → Inside (s .ds .0) (s .de .0) (s .vds .0) (s .vde .0) x y → plainInk s pens table video y x ≡ getD table (logical s video x y) 0
+  pub display-ink : Accepted s → Inside (s .ds .0) (s .de .0) (s .vds .0) (s .vde .0) x y → plainInk s pens table video y x ≡ displayInk s table video y x
   unfolding plainInk plainCode
   display-ink r i =
       let o = border-shown s r x y (display-bordered s r x y i) in

@@ -46,7 +46,7 @@ module _ (s : Setting) (r : Accepted s) (pens table video : List ℕ) (at y : �
       → bs ≡ s .bs .0 → ds ≡ s .ds .0 → de ≡ s .de .0 → be ≡ s .be .0 → p ≡ painted o (at + bs) (at + ds) (λ k. getD pens 0 0)
       → q ≡ painted p (at + s .ds .0) (at + s .de .0) (from at (displayInk s table video y)) → m ≡ painted q (at + de) (at + be) (λ k. getD pens 0 0)
       → m ≡ painted o (at + s .bs .0) (at + s .be .0) (from at (plainInk s pens table video y))
-  unfolding from displayInk
+  unfolding from
   display-middle-law o p q m bs ds de be room in-rows above below e-bs e-ds e-de e-be e f g =
       let rows = within-true (s .vds .0) (s .vde .0) y in-rows in
       let left : Paints 0 o p (at + s .bs .0) (at + s .ds .0) (from at (plainInk s pens table video y)) =

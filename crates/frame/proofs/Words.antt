@@ -1,21 +1,21 @@
--- Pixels of words: a pixel of a list is a field of one of its words, at any depth, and the words of a raster are a stretch of the list.
-use Prim.Native.Nat.{ℕ, zero, suc, _+_, _*_, _-_, _/_, _%_, _^_, _<_, _≤_}
+-- Cells of words, a byte at a time: what the table of bytes holds, and which of its cells the pixels of a word and of a list have.
+use Prim.Native.Nat.{ℕ, _+_, _*_, _-_, _/_, _%_, _^_, _<_, _≤_}
 use mathlib.Core.Path.{_≡_, refl, sym, ap, _∙_}
-use mathlib.Core.List.{List, [], _∷_}
-use native.Mathlib.Nat.{mod-eq-of-lt, mod-lt, one-mul, mul-assoc, mul-le-mul-right, div-one, sub-self, zero-mul, mul-le-mul, mul-zero, le-mul-of-pos-right, mul-one}
-use native.Mathlib.Omega.{arith}
-use lib.Dec.{eqb}
-use lib.ListN.{length, getD, set}
-use lib.Pow.{pow-pos, pow-mono, shr-shr}
-use Rattle.frame.specs.Pixel.{pixel}
-use Rattle.registers.proofs.Accepted.{Depth}
-use Rattle.frame.specs.Ink.{from, wordInk, wordsInk}
-use Rattle.buffers.proofs.Paints.{Paints, paint-more, paint-next, paint-as, paints-of}
+use mathlib.Core.List.{List}
 use mathlib.Core.Logic.{inl, inr}
-use Rattle.frame.proofs.PixelPlaces.{pixel-in}
-use Rattle.buffers.proofs.Split.{lt-or-le}
-use Rattle.buffers.specs.Pick.{pick}
+use native.Mathlib.Nat.{mod-eq-of-lt, mod-lt, one-mul, mul-le-mul-right, div-one, sub-self, zero-mul, mul-zero, div-lt-iff-lt-mul}
+use native.Mathlib.Omega.{arith}
+use lib.Arith.{digits-div, digits-mod}
+use lib.ListN.{length, getD, replicate, length-replicate}
+use lib.Pow.{pow-pos, pow-mono, shr-shr}
 use Rattle.buffers.specs.Painted.{painted}
+use Rattle.buffers.proofs.Paints.{Paints, paint-next, paint-as, paints-of}
+use Rattle.buffers.proofs.Split.{lt-or-le}
+use Rattle.registers.proofs.Accepted.{Depth}
+use Rattle.frame.specs.Pixel.{pixel}
+use Rattle.frame.specs.Lent.{Parts}
+use Rattle.frame.specs.Ink.{from, cellIn, byteInk, bytesInk, wordInk, wordsInk}
+use Rattle.frame.proofs.PixelPlaces.{past-bytes, past-pixels, pixel-in}
 
 -- 2 ^ d as the machine makes it.
 pub one-shifted : (d : ℕ) → d ≤ 8 → (1 * 2 ^ d) % 2 ^ 32 ≡ 2 ^ d
@@ -24,20 +24,109 @@ one-shifted d h = rw (one-mul (2 ^ d)) (mod-eq-of-lt (omega (arith, pow-mono h))
 pub low-bits : (x d : ℕ) → d ≤ 8 → x % ((1 * 2 ^ d) % 2 ^ 32) < 256
 low-bits x d h = rw (one-shifted d h) (omega (arith, mod-lt x (pow-pos d), pow-mono h))
 
--- One pixel of a word, and the rest of the word moved down.
-pub next-pixel : (w i d : ℕ) → w / 2 ^ (i * d) / 2 ^ d ≡ w / 2 ^ ((i + 1) * d)
-next-pixel w i d = shr-shr w (i * d) d ∙ ap (λ (n : ℕ). w / 2 ^ n) (omega arith)
+-- One pixel of a byte, and the rest of the byte moved down.
+pub pixel-ink : (shades : List ℕ) (b d at k rest : ℕ) → d ≤ 8 → rest ≡ b / 2 ^ ((k - at) * d)
+    → getD shades (rest % ((1 * 2 ^ d) % 2 ^ 32)) 0 ≡ from at (byteInk shades b d) k
+unfolding from byteInk
+pixel-ink shades b d at k rest h e = rw (one-shifted d h, e)
 
-pub pixel-ink : (table : List ℕ) (w d at k rest : ℕ) → d ≤ 8 → rest ≡ w / 2 ^ ((k - at) * d)
-    → getD table (rest % ((1 * 2 ^ d) % 2 ^ 32)) 0 ≡ from at (wordInk table w d) k
-unfolding from wordInk
-pixel-ink table w d at k rest h e = rw (one-shifted d h, e)
+pub whole-byte : (b at d : ℕ) → b ≡ b / 2 ^ ((at - at) * d)
+whole-byte b at d = rw (sub-self at, zero-mul d) (sym (div-one b))
 
-pub whole-word : (w at d : ℕ) → w ≡ w / 2 ^ ((at - at) * d)
-whole-word w at d = rw (sub-self at, zero-mul d) (sym (div-one w))
+pub next-from : (b at k d : ℕ) → at ≤ k → b / 2 ^ ((k - at) * d) / 2 ^ d ≡ b / 2 ^ ((k + 1 - at) * d)
+next-from b at k d h =
+    let e : (k - at) * d + d ≡ (k + 1 - at) * d = let n : k + 1 - at ≡ k - at + 1 = omega arith in rw n (omega arith) in
+    shr-shr b ((k - at) * d) d ∙ ap (λ (n : ℕ). b / 2 ^ n) e
 
-pub next-from : (w at k d : ℕ) → at ≤ k → w / 2 ^ ((k - at) * d) / 2 ^ d ≡ w / 2 ^ ((k + 1 - at) * d)
-next-from w at k d h = let e : k + 1 - at ≡ k - at + 1 = omega arith in rw e (next-pixel w (k - at) d)
+-- Part j of so many parts has room.
+pub part-room : (j parts count : ℕ) → j < parts → j * count + count ≤ parts * count
+part-room j parts count h = omega (arith, mul-le-mul-right count h)
+
+-- The table of bytes: one byte more is painted.
+module _ (shades : List ℕ) (per d b k : ℕ) (start : k ≡ b * per) where
+  byte-same : (i : ℕ) → k ≤ i → i < k + per → from k (byteInk shades b d) i ≡ bytesInk shades per d i
+  unfolding from bytesInk
+  byte-same i p q =
+      let e : i ≡ b * per + (i - k) = omega arith in
+      let x : i - k < per = omega arith in
+      let at : i / per ≡ b = ap (λ (n : ℕ). n / per) e ∙ digits-div b x in
+      let low : i % per ≡ i - k = ap (λ (n : ℕ). n % per) e ∙ digits-mod b x in
+      rw (at, low)
+
+  pub byte-turn : (o p q : List ℕ) → k + per ≤ length o → Paints 0 o p 0 k (bytesInk shades per d)
+      → q ≡ painted p k (k + per) (from k (byteInk shades b d)) → Paints 0 o q 0 (k + per) (bytesInk shades per d)
+  byte-turn o p q room so-far e =
+      paint-next (omega arith) (omega arith) so-far (paint-as (bytesInk shades per d) byte-same (paints-of (rw (so-far .len) room) e))
+
+-- Pixel i of a word stands in one of its four bytes, and that byte's cells in the table.
+module _ (w i per : ℕ) (some : 0 < per) where
+  pub in-word : i < 4 * per → i / per < 4
+  in-word h = div-lt-iff-lt-mul some .1 h
+
+  pub in-table : per ≤ 8 → w / 2 ^ (8 * (i / per)) % 256 * per + i % per < 2048
+  in-table few =
+      let b : w / 2 ^ (8 * (i / per)) % 256 < 256 = mod-lt _ (omega arith) in
+      omega (arith, part-room (w / 2 ^ (8 * (i / per)) % 256) 256 per b, mod-lt i some)
+
+-- A cell that was read, where it is stored.
+pub cell-stored : (cells : List ℕ) (at k : ℕ) → getD cells (k - at) 0 ≡ from at (cellIn cells) k
+unfolding from cellIn
+cell-stored cells at k = refl
+
+-- Part j of a word.
+module _ {per bytes parts : ℕ} (p : Parts per bytes parts) where
+  pub per-few : per ≤ 8
+  per-few = omega (arith, p .eight, mul-le-mul-right per (p .some))
+
+  module _ (j : ℕ) (h : j < parts) where
+    pub part-bytes : j * bytes + bytes ≤ 4
+    part-bytes = omega (arith, p .four, part-room j parts bytes h)
+
+    pub part-fits : j * (bytes * per) + bytes * per ≤ 4 * per
+    part-fits = omega (arith, mul-le-mul-right per part-bytes)
+
+module _ (table cells : List ℕ) (w per bytes at j k : ℕ) (start : k ≡ at + j * (bytes * per)) (some : 0 < per) (few : bytes * per ≤ 8)
+    (read : cells ≡ painted (replicate 8 0) 0 (bytes * per) (wordInk table (w / 2 ^ (8 * (j * bytes))) per)) where
+  read-at : (x : ℕ) → x < bytes * per → getD cells x 0 ≡ wordInk table (w / 2 ^ (8 * (j * bytes))) per x
+  read-at x h = paints-of {d = 0} {l = replicate 8 0} (omega (arith, length-replicate {A = ℕ} 8 0)) read .on x (omega arith) h
+
+  part-same : (i : ℕ) → k ≤ i → i < k + bytes * per → from k (cellIn cells) i ≡ from at (wordInk table w per) i
+  unfolding from cellIn wordInk
+  part-same i p q =
+      let e : i - at ≡ j * bytes * per + (i - k) = omega arith in
+      let bits : 8 * (j * bytes + (i - k) / per) ≡ 8 * (j * bytes) + 8 * ((i - k) / per) = omega arith in
+      rw (past-bytes (i - at) per (j * bytes) (i - k) e some, past-pixels (i - at) per (j * bytes) (i - k) e, bits, ← shr-shr w (8 * (j * bytes)) (8 * ((i - k) / per)))
+      (read-at (i - k) (omega arith))
+
+  -- One part more is painted.
+  pub part-turn : (o p q : List ℕ) → k + bytes * per ≤ length o → Paints 0 o p at k (from at (wordInk table w per))
+      → q ≡ painted p k (k + bytes * per) (from k (cellIn cells)) → Paints 0 o q at (k + bytes * per) (from at (wordInk table w per))
+  part-turn o p q room so-far e =
+      paint-next (omega arith) (omega arith) so-far (paint-as (from at (wordInk table w per)) part-same (paints-of (rw (so-far .len) room) e))
+
+-- The bytes of word q of a list.
+module _ (table ws : List ℕ) (per at q k : ℕ) (start : k ≡ at + q * (4 * per)) where
+  word-same : (i : ℕ) → k ≤ i → i < k + 4 * per → from k (wordInk table (getD ws q 0) per) i ≡ from at (wordsInk table ws per) i
+  unfolding from wordInk wordsInk
+  word-same i p t =
+      let some : 0 < per = omega arith in
+      let b : (i - k) / per < 4 = div-lt-iff-lt-mul some .1 (omega arith) in
+      let e : i - at ≡ q * 4 * per + (i - k) = omega arith in
+      let word : (q * 4 + (i - k) / per) / 4 ≡ q = omega arith in
+      let byte : (q * 4 + (i - k) / per) % 4 ≡ (i - k) / per = omega arith in
+      rw (past-bytes (i - at) per (q * 4) (i - k) e some, past-pixels (i - at) per (q * 4) (i - k) e, word, byte)
+
+  -- One word more is painted.
+  pub word-turn : (o p r : List ℕ) → k + 4 * per ≤ length o → Paints 0 o p at k (from at (wordsInk table ws per))
+      → r ≡ painted p k (k + 4 * per) (from k (wordInk table (getD ws q 0) per)) → Paints 0 o r at (k + 4 * per) (from at (wordsInk table ws per))
+  word-turn o p r room so-far e =
+      paint-next (omega arith) (omega arith) so-far (paint-as (from at (wordsInk table ws per)) word-same (paints-of (rw (so-far .len) room) e))
+
+pub depth-one : {d : ℕ} → Depth d → (d ≡ 8 → ⊥) → (d ≡ 4 → ⊥) → (d ≡ 2 → ⊥) → d ≡ 1
+depth-one (inl e) a b c = e
+depth-one (inr (inl e)) a b c = absurd (c e)
+depth-one (inr (inr (inl e))) a b c = absurd (b e)
+depth-one (inr (inr (inr e))) a b c = absurd (a e)
 
 pub fill-positive : (n d : ℕ) → n * d ≡ 32 → 0 < d
 fill-positive n d e =
@@ -49,96 +138,7 @@ fill-positive n d e =
           omega arith
     ]
 
-pub fill-most : (n d : ℕ) → n * d ≡ 32 → n ≤ 32
-fill-most n d e = omega (arith, le-mul-of-pos-right n (fill-positive n d e))
-
--- A chunk of a word.
-module _ (j chunks count d : ℕ) (h : j < chunks) where
-  pub chunk-room : j * count + count ≤ chunks * count
-  chunk-room = omega (arith, mul-le-mul-right count h)
-
-  pub chunk-bits : chunks * count * d ≡ 32 → j * (count * d) < 32
-  chunk-bits e =
-      let f : chunks * (count * d) ≡ 32 = sym (mul-assoc chunks count d) ∙ e in
-      omega (arith, mul-le-mul-right (count * d) h, fill-positive chunks (count * d) f)
-
-pub chunk-step : (count d : ℕ) → count ≤ 8 → d ≤ 8 → count * d ≤ 64
-chunk-step count d p q = mul-le-mul p q
-
-module _ (table : List ℕ) (w d at j count k bits : ℕ) (start : k ≡ at + j * count) (shift : bits ≡ j * (count * d)) where
-  chunk-same : (i : ℕ) → k ≤ i → i < k + count → from k (wordInk table (w / 2 ^ bits) d) i ≡ from at (wordInk table w d) i
-  unfolding from wordInk
-  chunk-same i p q =
-      let x : i - at ≡ j * count + (i - k) = omega arith in
-      let e : bits + (i - k) * d ≡ (j * count + (i - k)) * d = omega arith in
-      rw (shr-shr w bits ((i - k) * d), x, e)
-
-  -- One chunk more is painted.
-  pub chunk-turn : (o p q : List ℕ) → k + count ≤ length o → Paints 0 o p at k (from at (wordInk table w d))
-      → q ≡ painted p k (k + count) (from k (wordInk table (w / 2 ^ bits) d)) → Paints 0 o q at (k + count) (from at (wordInk table w d))
-  chunk-turn o p q room so-far e =
-      paint-next (omega arith) (omega arith) so-far (paint-as (from at (wordInk table w d)) chunk-same (paints-of (rw (so-far .len) room) e))
-
 -- Pixel x of word q, where n pixels of d bits fill a word.
 pub pixel-field : (ws : List ℕ) (d n q x : ℕ) → n * d ≡ 32 → x < n → pixel ws d (q * n + x) ≡ getD ws q 0 / 2 ^ (x * d) % 2 ^ d
 pixel-field ws d n q x e h =
     pixel-in ws d (q * n + x) q (x * d) (omega (arith, ap (λ (k : ℕ). q * k) e)) (omega (arith, mul-le-mul-right d h, fill-positive n d e))
-
-module _ (table ws : List ℕ) (d at q n k : ℕ) (start : k ≡ at + q * n) (fills : n * d ≡ 32) where
-  word-same : (i : ℕ) → k ≤ i → i < k + n → from k (wordInk table (getD ws q 0) d) i ≡ from at (wordsInk table ws d) i
-  unfolding from wordInk wordsInk
-  word-same i p t =
-      let x : i - at ≡ q * n + (i - k) = omega arith in
-      rw (x, pixel-field ws d n q (i - k) fills (omega arith))
-
-  -- One word more is painted.
-  pub word-turn : (o p r : List ℕ) → k + n ≤ length o → Paints 0 o p at k (from at (wordsInk table ws d))
-      → r ≡ painted p k (k + n) (from k (wordInk table (getD ws q 0) d)) → Paints 0 o r at (k + n) (from at (wordsInk table ws d))
-  word-turn o p r room so-far e =
-      paint-next (omega arith) (omega arith) so-far (paint-as (from at (wordsInk table ws d)) word-same (paints-of (rw (so-far .len) room) e))
-
-pub depth-one : {d : ℕ} → Depth d → (d ≡ 8 → ⊥) → (d ≡ 4 → ⊥) → (d ≡ 2 → ⊥) → d ≡ 1
-depth-one (inl e) a b c = e
-depth-one (inr (inl e)) a b c = absurd (c e)
-depth-one (inr (inr (inl e))) a b c = absurd (b e)
-depth-one (inr (inr (inr e))) a b c = absurd (a e)
-
--- The cell of bit j, chosen by that bit.
-pub bit-ink : (table : List ℕ) (w at j : ℕ) → pick (eqb (w / 2 ^ j % 2) 1) (getD table 1 0) (getD table 0 0) ≡ from at (wordInk table w 1) (at + j)
-unfolding from wordInk
-bit-ink table w at j =
-    let e : at + j - at ≡ j = omega arith in
-    rw (e, mul-one j) (by-bit (w / 2 ^ j % 2) (omega arith))
-  where
-    by-bit : (b : ℕ) → b < 2 → pick (eqb b 1) (getD table 1 0) (getD table 0 0) ≡ getD table b 0
-    by-bit zero h = refl
-    by-bit (suc zero) h = refl
-    by-bit (suc (suc b)) h = absurd (omega arith)
-
--- One bit more is painted.
-pub bit-turn : (table o m : List ℕ) (w at j v : ℕ) → at + j < length o → v ≡ pick (eqb (w / 2 ^ j % 2) 1) (getD table 1 0) (getD table 0 0)
-    → Paints 0 o m at (at + j) (from at (wordInk table w 1)) → Paints 0 o (set m (at + j) v) at (at + (j + 1)) (from at (wordInk table w 1))
-bit-turn table o m w at j v room e so-far =
-    let n : at + j + 1 ≡ at + (j + 1) = omega arith in
-    rw n at (paint-more {f = from at (wordInk table w 1)} v (omega arith) room (e ∙ bit-ink table w at j) so-far)
-
--- Two cells serve for words of one bit.
-module _ (table ws : List ℕ) (at q k : ℕ) (start : k ≡ at + q * 32) where
-  two-cells : (b : ℕ) → b < 2 → getD (getD table 0 0 ∷ getD table 1 0 ∷ []) b 0 ≡ getD table b 0
-  two-cells zero h = refl
-  two-cells (suc zero) h = refl
-  two-cells (suc (suc b)) h = absurd (omega arith)
-
-  two-same : (i : ℕ) → k ≤ i → i < k + 32
-      → from k (wordInk (getD table 0 0 ∷ getD table 1 0 ∷ []) (getD ws q 0) 1) i ≡ from at (wordsInk table ws 1) i
-  unfolding from wordInk
-  two-same i p t =
-      two-cells (getD ws q 0 / 2 ^ ((i - k) * 1) % 2 ^ 1) (mod-lt _ (pow-pos 1))
-      ∙ word-same table ws 1 at q 32 k start refl i p t
-
-  -- One word more is painted.
-  pub two-turn : (o p r : List ℕ) → k + 32 ≤ length o → Paints 0 o p at k (from at (wordsInk table ws 1))
-      → r ≡ painted p k (k + 32) (from k (wordInk (getD table 0 0 ∷ getD table 1 0 ∷ []) (getD ws q 0) 1))
-      → Paints 0 o r at (k + 32) (from at (wordsInk table ws 1))
-  two-turn o p r room so-far e =
-      paint-next (omega arith) (omega arith) so-far (paint-as (from at (wordsInk table ws 1)) two-same (paints-of (rw (so-far .len) room) e))

@@ -1,31 +1,44 @@
 -- The cell rule over cells made ready, as the painters hold them. `pens` are the cells of the colours at 40H to 4CH: the
--- border's, then the cursor's three. `table` has the display cell of each logical pixel.
+-- border's, then the cursor's three. `shades` has the display cell of each logical pixel, and `table` those of all pixels of
+-- each byte: `per` of them, 8/d, from place `per` times the byte on.
 use Prim.Native.Nat.{ℕ, _+_, _*_, _-_, _/_, _%_, _^_}
 use mathlib.Core.List.{List, [], _∷_}
 use lib.ListN.{getD}
 use lib.Dec.{ltb, eqb}
 use Rattle.buffers.specs.Pick.{pick}
+use Rattle.buffers.specs.Words.{byteOf}
 use Rattle.registers.specs.Colours.{borderOf, cursorOf}
 use Rattle.registers.specs.declared.record.Registers.{Registers}
 use Rattle.registers.specs.declared.setting.Setting.{Setting}
 use Rattle.colours.specs.Colour.{colourOf}
-use Rattle.frame.specs.Pixel.{pixel, logical, cursorPair}
+use Rattle.frame.specs.Pixel.{position, cursorPair}
 use Rattle.frame.specs.Cell.{plainCode, covered}
 
 -- A rule over the places of a stretch, moved to where that stretch starts.
 unfoldable pub from : ℕ → (ℕ → ℕ) → ℕ → ℕ
 from at rule k = rule (k - at)
 
--- The cell of pixel i of one word, and of a list of words.
+-- Cell j of a list.
+unfoldable pub cellIn : List ℕ → ℕ → ℕ
+cellIn cells j = getD cells j 0
+
+-- The cell of pixel j of a byte, and place k of the table: pixel k mod per of byte k div per.
+unfoldable pub byteInk : List ℕ → ℕ → ℕ → ℕ → ℕ
+byteInk shades b d j = getD shades (b / 2 ^ (j * d) % 2 ^ d) 0
+
+unfoldable pub bytesInk : List ℕ → ℕ → ℕ → ℕ → ℕ
+bytesInk shades per d k = byteInk shades (k / per) d (k % per)
+
+-- The cell of pixel i of one word, and of a list of words: pixel i mod per of byte i div per.
 unfoldable pub wordInk : List ℕ → ℕ → ℕ → ℕ → ℕ
-wordInk table w d i = getD table (w / 2 ^ (i * d) % 2 ^ d) 0
+wordInk table w per i = getD table (w / 2 ^ (8 * (i / per)) % 256 * per + i % per) 0
 
 unfoldable pub wordsInk : List ℕ → List ℕ → ℕ → ℕ → ℕ
-wordsInk table ws d i = getD table (pixel ws d i) 0
+wordsInk table ws per i = getD table (byteOf ws (i / per) * per + i % per) 0
 
 -- Position x of raster y where it is displayed.
 unfoldable pub displayInk : Setting → List ℕ → List ℕ → ℕ → ℕ → ℕ
-displayInk s table video y x = getD table (logical s video x y) 0
+displayInk s table video y x = wordsInk table video (8 / s .depth) (position s x y)
 
 -- A cell of raster y outside border and horizontal sync: code 2 in vertical sync, else 0.
 abbrev pub blankOf : Setting → ℕ → ℕ
@@ -34,7 +47,7 @@ blankOf s y = pick (ltb y (s .vs .0)) 2 0 * 8192
 -- Position x of raster y with no cursor.
 unfoldable pub plainInk : Setting → List ℕ → List ℕ → List ℕ → ℕ → ℕ → ℕ
 plainInk s pens table video y x =
-    pick (eqb (plainCode s x y) 5) (getD table (logical s video x y) 0)
+    pick (eqb (plainCode s x y) 5) (displayInk s table video y x)
     (pick (eqb (plainCode s x y) 4) (getD pens 0 0) (plainCode s x y * 8192))
 
 unfoldable pub ink : Setting → List ℕ → List ℕ → List ℕ → List ℕ → ℕ → ℕ → ℕ

@@ -1,5 +1,5 @@
--- What the painters ask of what they are lent: an accepted setting, room, and the words that the frame needs.
-use Prim.Native.Nat.{ℕ, _+_, _≤_}
+-- What the painters ask of what they are lent: an accepted setting, room, the words that the frame needs, whole parts of a word.
+use Prim.Native.Nat.{ℕ, _+_, _*_, _≤_, _<_}
 use mathlib.Core.List.{List}
 use mathlib.Core.Path.{_≡_}
 use lib.ListN.{length}
@@ -24,3 +24,10 @@ pub record Pointed (s : Setting) (at : ℕ) (cursor out : List ℕ) : Type 0 whe
   pub accepted : Accepted s
   pub room : at + s .n .0 ≤ length out
   pub words : length cursor ≡ cursorWords s
+
+-- A word in parts of so many bytes, `per` pixels to a byte and no more than 8 to a part.
+pub record Parts (per bytes parts : ℕ) : Type 0 where
+  pub pixels : 0 < per
+  pub some : 0 < bytes
+  pub eight : bytes * per ≤ 8
+  pub four : parts * bytes ≡ 4

@@ -1,43 +1,71 @@
-// Display words into cells, through a table that has a cell for each logical pixel.
-ghost use mathlib.Core.List.{[], _∷_};
+// Display words into cells, through a table that has the cells of all pixels of each byte.
 ghost use mathlib.Core.Path.{_≡_};
 ghost use Prim.Native.Nat.{_+_, _*_, _/_, _≤_, _<_};
-ghost use lib.ListN.{length};
-ghost use Rattle.buffers.specs.Pick.{pick};
+ghost use lib.ListN.{length, replicate};
 ghost use Rattle.buffers.specs.Painted.{painted};
 ghost use Rattle.registers.proofs.Accepted.{Depth};
-ghost use Rattle.frame.specs.Ink.{from, wordInk, wordsInk};
+ghost use Rattle.frame.specs.Lent.{Parts};
+ghost use Rattle.frame.specs.Ink.{from, cellIn, wordInk, wordsInk};
 
-// The lowest `count` pixels of `w`, `d` bits each.
-fn some(out: &mut [u16], at: usize, count: usize, w: u32, d: u32, table: &[u16; 256])
-    requires { ⌜ (at + count ≤ length (now out)) × (d ≤ 8) ⌝ }
-    ensures { λ _. ⌜ now (out .exit) ≡ painted (now (out .entry)) at (at + count) (from at (wordInk (now (table .entry)) w d)) ⌝ }
+// Pixel i of a word, `per` pixels to a byte.
+fn cell(table: &[u16; 2048], w: u32, per: usize, i: usize) -> u16
+    requires { ⌜ (0 < per) × (per ≤ 8) × (i < 4 * per) ⌝ }
+    ensures { λ r. ⌜ r ≡ wordInk (now (table .entry)) w per i ⌝ }
 {
-    let m = 1u32 << d;
+    let byte = ((w >> (8 * (i / per))) % 256) as usize;
+    table[byte * per + i % per]
+}
+
+// The lowest `count` of them: all are read before one is stored, so that the machine moves them at once.
+fn cells(table: &[u16; 2048], w: u32, per: usize, count: usize) -> [u16; 8]
+    requires { ⌜ (0 < per) × (per ≤ 8) × (count ≤ 8) × (count ≤ 4 * per) ⌝ }
+    ensures { λ r. ⌜ r ≡ painted (replicate 8 0) 0 count (wordInk (now (table .entry)) w per) ⌝ }
+{
+    let mut read = [0u16; 8];
+    let mut i = 0;
+    while i < count {
+        read[i] = cell(table, w, per, i);
+        i += 1;
+    }
+    read
+}
+
+fn put(out: &mut [u16], at: usize, count: usize, cells: [u16; 8])
+    requires { ⌜ (count ≤ 8) × (at + count ≤ length (now out)) ⌝ }
+    ensures { λ _. ⌜ now (out .exit) ≡ painted (now (out .entry)) at (at + count) (from at (cellIn cells)) ⌝ }
+{
     let end = at + count;
-    let mut rest = w;
     let mut k = at;
     while k < end {
-        out[k] = table[(rest % m) as usize];
-        rest = rest >> d;
+        out[k] = cells[k - at];
         k += 1;
     }
 }
 
-// All pixels of one word: `chunks` times `count` of them.
-fn word(out: &mut [u16], at: usize, count: usize, chunks: usize, w: u32, d: u32, table: &[u16; 256])
-    requires { ⌜ (at + chunks * count ≤ length (now out)) × (count ≤ 8) × (d ≤ 8) × (chunks * count * d ≡ 32) ⌝ }
-    ensures { λ _. ⌜ now (out .exit) ≡ painted (now (out .entry)) at (at + chunks * count)
-        (from at (wordInk (now (table .entry)) w d)) ⌝ }
+// All pixels of one word: `parts` times those of `bytes` of its bytes.
+fn word(
+    out: &mut [u16],
+    at: usize,
+    w: u32,
+    per: usize,
+    bytes: usize,
+    parts: usize,
+    table: &[u16; 2048],
+)
+    requires { ⌜ (at + 4 * per ≤ length (now out)) × Parts per bytes parts ⌝ }
+    ensures { λ _. ⌜ now (out .exit) ≡ painted (now (out .entry)) at (at + 4 * per) (from at (wordInk (now (table .entry)) w per)) ⌝ }
 {
-    let step = (count as u32) * d;
+    let count = bytes * per;
     let mut k = at;
-    let mut bits: u32 = 0;
     let mut j = 0;
-    while j < chunks {
-        some(out, k, count, w >> bits, d, table);
+    while j < parts {
+        put(
+            out,
+            k,
+            count,
+            cells(table, w >> (8 * (j * bytes)), per, count),
+        );
         k += count;
-        bits += step;
         j += 1;
     }
 }
@@ -47,81 +75,42 @@ fn words(
     out: &mut [u16],
     at: usize,
     video: &[u32],
-    count: usize,
-    chunks: usize,
-    d: u32,
-    table: &[u16; 256],
+    per: usize,
+    bytes: usize,
+    parts: usize,
+    table: &[u16; 2048],
 )
-    requires { ⌜ (at + length (now video) * (chunks * count) ≤ length (now out)) × (count ≤ 8) × (d ≤ 8)
-        × (chunks * count * d ≡ 32) ⌝ }
-    ensures { λ _. ⌜ now (out .exit) ≡ painted (now (out .entry)) at
-        (at + length (now (video .entry)) * (chunks * count)) (from at (wordsInk (now (table .entry)) (now (video .entry)) d)) ⌝ }
+    requires { ⌜ (at + length (now video) * (4 * per) ≤ length (now out)) × Parts per bytes parts ⌝ }
+    ensures { λ _. ⌜ now (out .exit) ≡ painted (now (out .entry)) at (at + length (now (video .entry)) * (4 * per))
+        (from at (wordsInk (now (table .entry)) (now (video .entry)) per)) ⌝ }
 {
     let mut k = at;
     let mut q = 0;
     while q < video.len() {
-        word(out, k, count, chunks, video[q], d, table);
-        k += chunks * count;
+        word(out, k, video[q], per, bytes, parts, table);
+        k += 4 * per;
         q += 1;
     }
 }
 
-// One of two cells.
-fn choose(bit: bool, zero: u16, one: u16) -> u16
-    ensures { λ r. ⌜ r ≡ pick bit one zero ⌝ }
-{
-    if bit {
-        return one;
-    }
-    zero
-}
-
-// A word of 32 pixels of one bit: each cell by the bit's own place, so that the machine can make several at once.
-fn bits(out: &mut [u16], at: usize, w: u32, zero: u16, one: u16)
-    requires { ⌜ at + 32 ≤ length (now out) ⌝ }
-    ensures { λ _. ⌜ now (out .exit) ≡ painted (now (out .entry)) at (at + 32) (from at (wordInk (zero ∷ one ∷ []) w 1)) ⌝ }
-{
-    let mut j = 0;
-    while j < 32 {
-        out[at + j] = choose((w >> j) % 2 == 1, zero, one);
-        j += 1;
-    }
-}
-
-// The same for a list of words. The two cells are read once, and not again after each word that is stored.
-fn bit_words(out: &mut [u16], at: usize, video: &[u32], table: &[u16; 256])
-    requires { ⌜ at + length (now video) * 32 ≤ length (now out) ⌝ }
-    ensures { λ _. ⌜ now (out .exit) ≡ painted (now (out .entry)) at (at + length (now (video .entry)) * 32)
-        (from at (wordsInk (now (table .entry)) (now (video .entry)) 1)) ⌝ }
-{
-    let zero = table[0];
-    let one = table[1];
-    let mut k = at;
-    let mut q = 0;
-    while q < video.len() {
-        bits(out, k, video[q], zero, one);
-        k += 32;
-        q += 1;
-    }
-}
-
-// The same by depth: each depth's numbers are literals, so that each has a loop of its own in the machine's code.
-pub fn shown(out: &mut [u16], at: usize, video: &[u32], d: u8, table: &[u16; 256])
+// The same by depth: each depth's numbers are literals, so that each has a loop of its own in the machine's code. Eight cells
+// are stored at once; at depth 8, where each is read by itself, joining them would cost more than it spares.
+pub fn shown(out: &mut [u16], at: usize, video: &[u32], d: u8, table: &[u16; 2048])
     requires { ⌜ (at + length (now video) * (32 / d) ≤ length (now out)) × Depth d ⌝ }
     ensures { λ _. ⌜ now (out .exit) ≡ painted (now (out .entry)) at (at + length (now (video .entry)) * (32 / d))
-        (from at (wordsInk (now (table .entry)) (now (video .entry)) d)) ⌝ }
+        (from at (wordsInk (now (table .entry)) (now (video .entry)) (8 / d))) ⌝ }
 {
     if d == 8 {
-        words(out, at, video, 4, 1, 8, table);
+        words(out, at, video, 1, 1, 4, table);
         return;
     }
     if d == 4 {
-        words(out, at, video, 8, 1, 4, table);
+        words(out, at, video, 2, 4, 1, table);
         return;
     }
     if d == 2 {
-        words(out, at, video, 8, 2, 2, table);
+        words(out, at, video, 4, 2, 2, table);
         return;
     }
-    bit_words(out, at, video, table);
+    words(out, at, video, 8, 1, 4, table);
 }

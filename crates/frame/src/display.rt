@@ -32,7 +32,7 @@ pub fn display(
     at: usize,
     s: Setting,
     y: Rasters,
-    table: &[u16; 256],
+    table: &[u16; 2048],
     video: &[u32],
 )
     requires { ⌜ Raster s at (now video) (now out) × (s .vds .0 ≤ y .0) × (y .0 < s .vde .0) ⌝ }

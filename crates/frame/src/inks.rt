@@ -1,4 +1,5 @@
 // Cells made ready, once for each call: a display cell for each logical pixel, and the cells of border and cursor.
+use crate::bytes::bytes;
 use crate::rows::row;
 use crate::rows::rows;
 use colours::colour;
@@ -42,7 +43,8 @@ pub fn paint_frame(out: &mut [u16], g: Registers, s: Setting, video: &[u32], cur
     ensures { λ _. ⌜ now (out .exit) ≡ painted (now (out .entry)) 0 (cells s)
         (frameCell g s (now (video .entry)) (now (cursor .entry))) ⌝ }
 {
-    let table = shades(g, s.depth);
+    let cells = shades(g, s.depth);
+    let table = bytes(&cells, s.depth);
     let inks = pens(g);
     rows(out, s, &inks, &table, video, cursor);
 }
@@ -59,7 +61,8 @@ pub fn paint_raster(
     ensures { λ _. ⌜ now (out .exit) ≡ painted (now (out .entry)) 0 (s .n .0)
         (rasterCell g s (now (video .entry)) (now (cursor .entry)) (y .0)) ⌝ }
 {
-    let table = shades(g, s.depth);
+    let cells = shades(g, s.depth);
+    let table = bytes(&cells, s.depth);
     let inks = pens(g);
     row(out, 0, s, y, &inks, &table, video, cursor);
 }

@@ -11,6 +11,7 @@ ghost use lib.ListN.{length};
 ghost use Rattle.registers.specs.Table.{told};
 ghost use Rattle.frame.specs.Frame.{wordsWrong, frameTold, frameHeld, rasterTold, rasterHeld};
 
+mod bytes;
 mod cursor;
 mod decode;
 mod display;

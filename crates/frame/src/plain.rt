@@ -28,7 +28,7 @@ fn middle(
     s: Setting,
     y: Rasters,
     pens: &[u16; 4],
-    table: &[u16; 256],
+    table: &[u16; 2048],
     video: &[u32],
 )
     requires { ⌜ Raster s at (now video) (now out) × (s .vbs .0 ≤ y .0) × (y .0 < s .vbe .0) ⌝ }
@@ -53,7 +53,7 @@ pub fn plain(
     s: Setting,
     y: Rasters,
     pens: &[u16; 4],
-    table: &[u16; 256],
+    table: &[u16; 2048],
     video: &[u32],
 )
     requires { ⌜ Raster s at (now video) (now out) ⌝ }

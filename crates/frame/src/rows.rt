@@ -16,7 +16,7 @@ pub fn row(
     s: Setting,
     y: Rasters,
     pens: &[u16; 4],
-    table: &[u16; 256],
+    table: &[u16; 2048],
     video: &[u32],
     cursor: &[u32],
 )
@@ -32,7 +32,7 @@ pub fn rows(
     out: &mut [u16],
     s: Setting,
     pens: &[u16; 4],
-    table: &[u16; 256],
+    table: &[u16; 2048],
     video: &[u32],
     cursor: &[u32],
 )

@@ -1,33 +1,22 @@
 -- Bright pixels counted by whole bytes: a word's four bytes hold its pixels in order. Once for every depth d.
 use Prim.Native.Nat.{ℕ, _+_, _*_, _-_, _/_, _%_, _^_, _<_, _≤_}
 use mathlib.Core.List.{List}
-use mathlib.Core.Logic.{_⊎_, ⊎-elim}
 use mathlib.Core.Path.{_≡_, sym, _∙_, ap}
 use native.Mathlib.Nat.{add-mul, mul-assoc, mod-lt, div-one, mul-le-mul-right}
 use native.Mathlib.Omega.{arith}
 use lib.ListN.{getD}
-use lib.Pow.{field as pow-field, mod-mod-pow, shr-shr}
+use lib.Pow.{shr-shr}
 use Rattle.registers.proofs.Accepted.{Depth}
 use Rattle.registers.proofs.Words.{depth-least}
-use Rattle.frame.proofs.PixelPlaces.{pixel-in}
+use Rattle.frame.proofs.PixelPlaces.{fills-byte, low-field, pixel-in}
 use Rattle.marks.specs.Count.{total}
 use Rattle.marks.specs.Bright.{Tabled, field, fieldBright, byteBright, pixelBright, wordBright, wordAt}
 use Rattle.marks.proofs.Totals.{total-as, total-rows}
 
-pub depth-eight : (d : ℕ) → Depth d → 8 / d * d ≡ 8
-depth-eight d h = ⊎-elim (λ e. rw e) (⊎-elim (λ e. rw e) (⊎-elim (λ e. rw e) (λ e. rw e))) h
-
--- The pixels of x that lie in its low byte.
-low-field : (x k d : ℕ) → k + d ≤ 8 → x % 256 / 2 ^ k % 2 ^ d ≡ x / 2 ^ k % 2 ^ d
-low-field x k d h =
-    let bits : 8 ≡ 8 - k - d + d + k = omega arith in
-    let byte : x % 256 ≡ x % 2 ^ (8 - k - d + d + k) = ap (λ n. x % 2 ^ n) bits in
-    rw (byte, pow-field x (8 - k - d + d) k, mod-mod-pow (x / 2 ^ k) (8 - k - d) d)
-
 -- Pixel j of a word's byte b.
 byte-field : (w d b j : ℕ) → Depth d → j < 8 / d → field w d (b * (8 / d) + j) ≡ field (w / 2 ^ (b * 8) % 256) d j
 byte-field w d b j h l =
-    let eight : 8 / d * d ≡ 8 = depth-eight d h in
+    let eight : 8 / d * d ≡ 8 = fills-byte h in
     let bits : (b * (8 / d) + j) * d ≡ b * 8 + j * d = rw (add-mul, mul-assoc, eight) in
     let room : j * d + d ≤ 8 = omega (arith, mul-le-mul-right d l, add-mul j 1 d) in
     rw (bits, ← shr-shr w (b * 8) (j * d), low-field (w / 2 ^ (b * 8)) (j * d) d room)
@@ -56,7 +45,7 @@ module _ (pixels bytes : List ℕ) (d : ℕ) (h : Depth d) (t : Tabled bytes 256
 
   word-pixel : (ws : List ℕ) (q j : ℕ) → j < 4 * (8 / d) → pixelBright pixels ws d (q * (4 * (8 / d)) + j) ≡ fieldBright pixels d (getD ws q 0) j
   word-pixel ws q j l =
-      let all : 4 * (8 / d) * d ≡ 32 = omega (arith, mul-assoc 4 (8 / d) d, depth-eight d h) in
+      let all : 4 * (8 / d) * d ≡ 32 = omega (arith, mul-assoc 4 (8 / d) d, fills-byte h) in
       let bits : (q * (4 * (8 / d)) + j) * d ≡ q * 32 + j * d = rw (add-mul, mul-assoc, all) in
       let room : j * d < 32 = omega (arith, mul-le-mul-right d l, add-mul j 1 d, depth-least h) in
       ap (λ p. getD pixels p 0) (pixel-in ws d (q * (4 * (8 / d)) + j) q (j * d) bits room)

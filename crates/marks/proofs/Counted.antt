@@ -12,10 +12,11 @@ use Rattle.registers.specs.declared.record.Registers.{Registers}
 use Rattle.registers.specs.declared.setting.Setting.{Setting}
 use Rattle.registers.proofs.Accepted.{Accepted, video-off}
 use Rattle.registers.proofs.Words.{depth-least, raster-bits, video-rasters}
+use Rattle.frame.proofs.PixelPlaces.{fills-byte}
 use Rattle.marks.specs.Count.{total}
 use Rattle.marks.specs.Marks.{marksOf}
 use Rattle.marks.specs.Bright.{Tabled, bright, byteBright, pixelBright, wordAt, coveredBright, cursorRaster, coveredAll}
-use Rattle.marks.proofs.Bytes.{depth-eight, words-total}
+use Rattle.marks.proofs.Bytes.{words-total}
 use Rattle.marks.proofs.Points.{markIn, displayBright, point}
 use Rattle.marks.proofs.Rows.{rowsTotal, marks-rows, rows-add, display-total, display-off, covered-total, covered-off}
 
@@ -25,7 +26,7 @@ module _ (s : Setting) (a : Accepted s) where
   raster-pixels =
       let d = s .depth in
       let n = 4 * (8 / d) in
-      let all : n * d ≡ 32 = omega (arith, mul-assoc 4 (8 / d) d, depth-eight d (a .depth)) in
+      let all : n * d ≡ 32 = omega (arith, mul-assoc 4 (8 / d) d, fills-byte (a .depth)) in
       let bits : rasterWords s * n * d ≡ (s .de .0 - s .ds .0) * d = rw (mul-assoc (rasterWords s) n d, all, raster-bits s a) in
       sym (mul-div-cancel (s .de .0 - s .ds .0) (depth-least (a .depth))) ∙ ap (λ m. m / d) (sym bits) ∙ mul-div-cancel (rasterWords s * n) (depth-least (a .depth))
 

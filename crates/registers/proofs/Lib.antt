@@ -1,5 +1,7 @@
 pub mod Lists
 pub mod First
+pub mod Groups
+pub mod Missing
 pub mod Tables
 pub mod Exactly
 pub mod Accepted

@@ -6,7 +6,7 @@ use mathlib.Core.List.{List, [], _∷_}
 use mathlib.Core.Logic.{_⊎_, inl, inr}
 use native.Mathlib.Omega.{arith}
 use Rattle.buffers.specs.Pick.{pick}
-use Rattle.registers.specs.Table.{Told, given, refused, Row, judged, Passes, First}
+use Rattle.registers.specs.Table.{Told, given, refused, Row, judged, andThen, Passes, First}
 
 -- what was asked for is never a refusal
 pub never : {A : Type 0} {P : Type 0} {a : A} {n d : ℕ} → given a ≡ refused n d → P
@@ -39,3 +39,13 @@ module _ {A : Type 0} (a : A) where
   first-refused [] n d f = absurd f
   first-refused (r ∷ rs) n d (inl f) = rw (f .0, f .1, f .2)
   first-refused (r ∷ rs) n d (inr f) = rw (f .0) (first-refused rs n d (f .1))
+
+-- a table judged for one thing, told for another
+pub judged-then : {A B : Type 0} (a : A) (b : B) (rows : List Row) → judged rows b ≡ andThen (judged rows a) (λ _. given b)
+judged-then a b [] = refl
+judged-then a b (r ∷ rs) = go (r .when) (judged-then a b rs)
+  where
+    go : (t : Bool) → judged rs b ≡ andThen (judged rs a) (λ _. given b)
+        → pick t (refused (r .number) (r .detail)) (judged rs b) ≡ andThen (pick t (refused (r .number) (r .detail)) (judged rs a)) (λ _. given b)
+    go true e = refl
+    go false e = e

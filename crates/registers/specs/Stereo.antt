@@ -1,6 +1,7 @@
 -- Stereo values, the sound frequency, and what is wrong with them.
 use Prim.Native.Nat.{ℕ, _+_, _%_}
 use mathlib.Core.Bool.{Bool, false, _&&_, _||_, not}
+use mathlib.Core.List.{List}
 use lib.ListN.{getD}
 use lib.Dec.{ltb, eqb}
 use Rattle.registers.specs.Record.{at}
@@ -25,7 +26,10 @@ soundNeeds slot = among 0x60 0x7C slot || eqb slot (at 0xC0)
 abbrev pub soundMissing : Registers → ℕ → Bool
 soundMissing g slot = soundNeeds slot && not (getD (g .written) slot false)
 
+-- A stereo value 0.
+abbrev pub zeroStereo : List ℕ → ℕ → Bool
+zeroStereo values slot = among 0x60 0x7C slot && eqb (getD values slot 0 % 8) 0
+
 -- A stereo value 0, or a sound frequency below 3.
 abbrev pub soundWrong : Registers → ℕ → Bool
-soundWrong g slot =
-    (among 0x60 0x7C slot && eqb (getD (g .values) slot 0 % 8) 0) || (eqb slot (at 0xC0) && ltb (getD (g .values) slot 0 % 256) 3)
+soundWrong g slot = zeroStereo (g .values) slot || (eqb slot (at 0xC0) && ltb (getD (g .values) slot 0 % 256) 3)

@@ -4,11 +4,12 @@ use crate::lowest::lowest;
 use crate::numbers::odd_bits;
 use crate::numbers::past;
 use crate::record::Registers;
+use crate::refusal::Answer;
 use crate::refusal::Refusal;
 use crate::setting::Setting;
 ghost use mathlib.Core.Path.{_≡_};
 ghost use Rattle.buffers.specs.Pick.{pick};
-ghost use Rattle.registers.specs.Table.{refusal};
+ghost use Rattle.registers.specs.Table.{refusal, told, judged};
 ghost use Rattle.registers.specs.Check.{
   checkSays,
   horizontalRule,
@@ -19,8 +20,10 @@ ghost use Rattle.registers.specs.Check.{
   cursorRule,
   testMode,
   interlaced,
+  settingTable,
   checkTold,
 };
+ghost use Rattle.registers.specs.Setting.{settingOf};
 
 pub enum Checked {
     Accepted(Setting),
@@ -28,11 +31,11 @@ pub enum Checked {
 }
 
 // A refusal where the test holds, else what the rows after it answer.
-fn refused_if(wrong: bool, why: Refusal, rest: Checked) -> Checked
-    ensures { λ r. ⌜ checkSays r ≡ pick wrong (refusal why) (checkSays rest) ⌝ }
+fn refused_if(wrong: bool, why: Refusal, rest: Answer) -> Answer
+    ensures { λ r. ⌜ told r ≡ pick wrong (refusal why) (told rest) ⌝ }
 {
     if wrong {
-        return Checked::Refused(why);
+        return Answer::Refused(why);
     }
     rest
 }
@@ -102,14 +105,14 @@ impl Registers {
         self.control() / 0x40 % 2 != 0
     }
 
-    // The accepted setting, or the first refusal of 3 to 9. The rows are joined from the last to the first.
-    pub fn check(self) -> Checked
-        ensures { λ r. ⌜ checkSays r ≡ checkTold self ⌝ }
+    // The first refusal of 3 to 9, for the record and its setting. The rows are joined from the last to the first.
+    fn judge(self, s: Setting) -> Answer
+        requires { ⌜ s ≡ settingOf self ⌝ }
+        ensures { λ r. ⌜ told r ≡ judged (settingTable self) tt ⌝ }
     {
-        let s = self.setting();
         let low = lowest(self, Fault::Unwritten);
         let address = 4 * low as u32;
-        let end = Checked::Accepted(s);
+        let end = Answer::Done;
         let end = refused_if(!self.is_cursor_right(s), Refusal::Cursor, end);
         let end = refused_if(!s.is_width_right(), Refusal::Width, end);
         let end = refused_if(!s.is_vertical_right(), Refusal::Vertical, end);
@@ -117,5 +120,16 @@ impl Registers {
         let end = refused_if(self.is_interlaced(), Refusal::Interlace, end);
         let end = refused_if(self.is_test_mode(), Refusal::TestMode, end);
         refused_if(low < Self::SLOTS, Refusal::Unwritten(address), end)
+    }
+
+    // The accepted setting, or the first refusal of 3 to 9.
+    pub fn check(self) -> Checked
+        ensures { λ r. ⌜ checkSays r ≡ checkTold self ⌝ }
+    {
+        let s = self.setting();
+        match self.judge(s) {
+            Answer::Done => Checked::Accepted(s),
+            Answer::Refused(why) => Checked::Refused(why),
+        }
     }
 }

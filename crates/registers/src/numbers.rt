@@ -1,6 +1,6 @@
 // Arithmetic that is safe for all numbers.
 ghost use mathlib.Core.Path.{_≡_};
-ghost use Prim.Native.Nat.{_-_, _*_, _/_, _%_};
+ghost use Prim.Native.Nat.{_-_, _*_, _/_, _%_, min};
 
 // a - b, or 0 where b is larger.
 pub fn past(a: u16, b: u16) -> u16
@@ -10,6 +10,15 @@ pub fn past(a: u16, b: u16) -> u16
         return 0;
     }
     a - b
+}
+
+pub fn least(a: usize, b: usize) -> usize
+    ensures { λ r. ⌜ r ≡ min a b ⌝ }
+{
+    if a < b {
+        return a;
+    }
+    b
 }
 
 // The words that hold width · rasters pixels of some bits each.

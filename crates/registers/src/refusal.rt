@@ -35,49 +35,42 @@ pub enum Refusal {
     TooLarge,
 }
 
+// The number and the detail of a row.
+struct Numbers(u32, u32);
+
 impl Refusal {
+    fn numbers(self) -> Numbers
+        ensures { λ r. ⌜ (r .0 ≡ numberOf self) × (r .1 ≡ detailOf self) ⌝ }
+    {
+        match self {
+            Refusal::TooManyWords => Numbers(1, 0),
+            Refusal::Reserved(index) => Numbers(2, index),
+            Refusal::Unwritten(address) => Numbers(3, address),
+            Refusal::TestMode => Numbers(4, 0),
+            Refusal::Interlace => Numbers(5, 0),
+            Refusal::Horizontal => Numbers(6, 0),
+            Refusal::Vertical => Numbers(7, 0),
+            Refusal::Width => Numbers(8, 0),
+            Refusal::Cursor => Numbers(9, 0),
+            Refusal::Sound(address) => Numbers(10, address),
+            Refusal::WordCount => Numbers(11, 0),
+            Refusal::Raster => Numbers(12, 0),
+            Refusal::Short => Numbers(13, 0),
+            Refusal::PlateFile => Numbers(14, 0),
+            Refusal::TooLarge => Numbers(15, 0),
+        }
+    }
+
     pub fn number(self) -> u32
         ensures { λ r. ⌜ r ≡ numberOf self ⌝ }
     {
-        match self {
-            Refusal::TooManyWords => 1,
-            Refusal::Reserved(_) => 2,
-            Refusal::Unwritten(_) => 3,
-            Refusal::TestMode => 4,
-            Refusal::Interlace => 5,
-            Refusal::Horizontal => 6,
-            Refusal::Vertical => 7,
-            Refusal::Width => 8,
-            Refusal::Cursor => 9,
-            Refusal::Sound(_) => 10,
-            Refusal::WordCount => 11,
-            Refusal::Raster => 12,
-            Refusal::Short => 13,
-            Refusal::PlateFile => 14,
-            Refusal::TooLarge => 15,
-        }
+        self.numbers().0
     }
 
     pub fn detail(self) -> u32
         ensures { λ r. ⌜ r ≡ detailOf self ⌝ }
     {
-        match self {
-            Refusal::Reserved(index) => index,
-            Refusal::Unwritten(address) => address,
-            Refusal::Sound(address) => address,
-            Refusal::TooManyWords => 0,
-            Refusal::TestMode => 0,
-            Refusal::Interlace => 0,
-            Refusal::Horizontal => 0,
-            Refusal::Vertical => 0,
-            Refusal::Width => 0,
-            Refusal::Cursor => 0,
-            Refusal::WordCount => 0,
-            Refusal::Raster => 0,
-            Refusal::Short => 0,
-            Refusal::PlateFile => 0,
-            Refusal::TooLarge => 0,
-        }
+        self.numbers().1
     }
 }
 

@@ -1,25 +1,40 @@
-// What sound needs of a record, by slot.
-use crate::needed::is_among;
+// What sound needs of a record: the lowest slot that is unwritten, and the lowest that is wrong.
+use crate::needed::lowest_unwritten;
+use crate::needed::slot_if;
+use crate::numbers::least;
 use crate::record::Registers;
 ghost use mathlib.Core.Path.{_≡_};
-ghost use Prim.Native.Nat.{_<_};
-ghost use Rattle.registers.specs.Stereo.{soundMissing, soundWrong};
+ghost use Rattle.registers.specs.Lowest.{lowest};
+ghost use Rattle.registers.specs.Stereo.{soundMissing, zeroStereo, soundWrong};
 
-// Whether a slot is needed by sound and unwritten.
-pub fn is_sound_missing(g: Registers, slot: usize) -> bool
-    requires { ⌜ slot < 64 ⌝ }
-    ensures { λ r. ⌜ r ≡ soundMissing g slot ⌝ }
+// The lowest slot that sound needs and that is unwritten, or 64.
+pub fn lowest_sound_missing(g: Registers) -> usize
+    ensures { λ r. ⌜ r ≡ lowest (soundMissing g) 64 0 ⌝ }
 {
-    let stereo = is_among(Registers::STEREO_7, Registers::STEREO_6, slot);
-    (stereo | (slot == Registers::SOUND_FREQUENCY / 4)) & !g.written[slot]
+    let stereo = lowest_unwritten(&g.written, Registers::STEREO_7, Registers::STEREO_6);
+    let slot = Registers::SOUND_FREQUENCY / 4;
+    least(stereo, slot_if(!g.written[slot], slot))
 }
 
-// Whether a slot holds a stereo value 0, or a sound frequency below 3.
-pub fn is_sound_wrong(g: Registers, slot: usize) -> bool
-    requires { ⌜ slot < 64 ⌝ }
-    ensures { λ r. ⌜ r ≡ soundWrong g slot ⌝ }
+// The lowest slot with a stereo value 0, or 64.
+fn lowest_zero_stereo(values: &[u32; 64]) -> usize
+    ensures { λ r. ⌜ r ≡ lowest (zeroStereo (now (values .entry))) 64 0 ⌝ }
 {
-    let stereo = is_among(Registers::STEREO_7, Registers::STEREO_6, slot);
-    (stereo & (g.values[slot] % 8 == 0))
-        | ((slot == Registers::SOUND_FREQUENCY / 4) & (g.values[slot] % 256 < 3))
+    let mut slot = Registers::STEREO_7 / 4;
+    while slot <= Registers::STEREO_6 / 4 {
+        if values[slot] % 8 == 0 {
+            return slot;
+        }
+        slot += 1;
+    }
+    Registers::SLOTS
+}
+
+// The lowest slot with a stereo value 0 or a sound frequency below 3, or 64.
+pub fn lowest_sound_wrong(g: Registers) -> usize
+    ensures { λ r. ⌜ r ≡ lowest (soundWrong g) 64 0 ⌝ }
+{
+    let stereo = lowest_zero_stereo(&g.values);
+    let slot = Registers::SOUND_FREQUENCY / 4;
+    least(stereo, slot_if(g.values[slot] % 256 < 3, slot))
 }

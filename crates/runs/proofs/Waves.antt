@@ -150,8 +150,13 @@ module _ (g : Registers) (words : List ℕ) where
   unfolding rest soundBlock
   split k small = elim (lt-or-le (length words) (256 * suc k)) [
     | inl l ↦
-        rw (drop-of-length-le words {i = 256 * suc k} (omega arith), played-none g (1024 * suc k), samples-none, append-nil,
-          take-all 256 (drop (256 * k) words) (omega (arith, length-drop (256 * k) words)))
+        rw (
+          drop-of-length-le words {i = 256 * suc k} (omega arith),
+          played-none g (1024 * suc k),
+          samples-none,
+          append-nil,
+          take-all 256 (drop (256 * k) words) (omega (arith, length-drop (256 * k) words)),
+        )
     | inr r ↦
         let from : List ℕ = drop (256 * k) words in
         let t : length (take 256 from) ≡ 256 = length-take-le 256 from (omega (arith, length-drop (256 * k) words)) in
@@ -172,7 +177,7 @@ module _ (file : List ℕ) where
   given-block : (k : ℕ) → waveTold file ≡ given tt → blockAt file (suc k) ≡ soundBlock (registersOf file) (soundList file) k
   unfolding blockAt
   given-block k e = rw e (file-block (registersOf file) (soundList file) (suc k) (λ q. omega arith)
-    ∙ ap (soundBlock (registersOf file) (soundList file)) (let q : suc k - 1 ≡ k = omega arith in q))
+      ∙ ap (soundBlock (registersOf file) (soundList file)) (let q : suc k - 1 ≡ k = omega arith in q))
 
   blocks-so-far : (k : ℕ) → waveTold file ≡ given tt → k < 1000000
       → firstBlocks file (suc k) ++ rest (registersOf file) (soundList file) k ≡ waveOf file
@@ -199,7 +204,7 @@ module _ (file : List ℕ) where
       go (given u) e =
           let few = few-sounds file (wave-taken file e) in
           let none : rest (registersOf file) (soundList file) 64 ≡ [] =
-              rw (drop-of-length-le (soundList file) {i = 256 * 64} (omega (arith, few)), played-none (registersOf file) (1024 * 64)) samples-none in
+          rw (drop-of-length-le (soundList file) {i = 256 * 64} (omega (arith, few)), played-none (registersOf file) (1024 * 64)) samples-none in
           sym (append-nil (firstBlocks file 65)) ∙ (ap (λ (l : List ℕ). firstBlocks file 65 ++ l) (sym none) ∙ blocks-so-far 64 e (omega arith))
 
   pub no-more-blocks : (k : ℕ) → 65 ≤ k → blockAt file k ≡ []

@@ -54,37 +54,17 @@ fn put_word(
         (valuesOf (inTable (now (lefts .entry))) (inTable (now (rights .entry))) counter (bytesOf (word ∷ [])))
         ⌝ }
 {
+    let a = (word % 0x100) as u8;
+    let b = (word / 0x100 % 0x100) as u8;
+    let c = (word / 0x1_0000 % 0x100) as u8;
+    let d = (word / 0x100_0000 % 0x100) as u8;
     let second = advanced(counter, 1);
     let third = advanced(second, 1);
     let fourth = advanced(third, 1);
-    put_byte(out, at, (word % 0x100) as u8, counter, lefts, rights, table);
-    put_byte(
-        out,
-        at + 2,
-        (word / 0x100 % 0x100) as u8,
-        second,
-        lefts,
-        rights,
-        table,
-    );
-    put_byte(
-        out,
-        at + 4,
-        (word / 0x1_0000 % 0x100) as u8,
-        third,
-        lefts,
-        rights,
-        table,
-    );
-    put_byte(
-        out,
-        at + 6,
-        (word / 0x100_0000 % 0x100) as u8,
-        fourth,
-        lefts,
-        rights,
-        table,
-    );
+    put_byte(out, at, a, counter, lefts, rights, table);
+    put_byte(out, at + 2, b, second, lefts, rights, table);
+    put_byte(out, at + 4, c, third, lefts, rights, table);
+    put_byte(out, at + 6, d, fourth, lefts, rights, table);
 }
 
 // The values of all words, from the first place on, and the counter after the last byte.

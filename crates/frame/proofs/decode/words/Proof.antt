@@ -1,6 +1,6 @@
 use native.Mathlib.Omega.{arith}
 use borrow.Author.Needs.{needs}
-use Rattle.frame.proofs.Words.{chunk-room, fill-most, word-turn}
+use Rattle.frame.proofs.Words.{part-room, per-few, word-turn}
 use Rattle.frame.specs.Ink.{from, wordsInk}
 use lib.ListN.{length}
 use Prim.Native.Nat.{ℕ, _+_, _*_, _-_, _≤_}
@@ -10,10 +10,10 @@ use Rattle.frame.proofs.decode.words.Statement.{statement}
 use Rattle.frame.proofs.decode.words.Tie as tie
 
 abbrev Inv-loop : tie.InvT-loop
-Inv-loop out₀ at video count chunks d table k₀ q₀ out k q = (q ≤ length video) × (k ≡ at + q * (chunks * count)) × Paints 0 out₀ out at k (from at (wordsInk table video d))
+Inv-loop out₀ at video per bytes parts table k₀ q₀ out k q = (q ≤ length video) × (k ≡ at + q * (4 * per)) × Paints 0 out₀ out at k (from at (wordsInk table video per))
 
 abbrev μ-loop : tie.MeasureT-loop
-μ-loop out₀ at video count chunks d table k₀ q₀ out k q = length video - q
+μ-loop out₀ at video per bytes parts table k₀ q₀ out k q = length video - q
 
 loop-holds : tie.Need-loop-holds Inv-loop μ-loop
 loop-holds c = (omega arith, omega arith, paint-none _ _)
@@ -27,15 +27,15 @@ shared-slice-read-word c = search needs
 word-requires : tie.Need-word-requires Inv-loop μ-loop
 word-requires c κs = let s = c .before .before .before .before .before .before in
     let l = c .before .before .before .loop in
-    (omega (arith, chunk-room (l .q) (length (s .args .video .now)) (s .args .chunks * s .args .count) 0 (c .before .before .loop-test .taken), s .pre .0, l .inv .1, l .inv .2 .len), s .pre .1, s .pre .2, s .pre .3)
+    (omega (arith, part-room (l .q) (length (s .args .video .now)) (4 * s .args .per) (c .before .before .loop-test .taken), s .pre .0, l .inv .1, l .inv .2 .len), s .pre .1)
 
 mul-k : tie.Need-mul-k Inv-loop μ-loop
-mul-k c = omega (arith, fill-most _ _ (c .before .before .before .before .before .before .before .before .before .pre .3))
+mul-k c = omega (arith, per-few (c .before .before .before .before .before .before .before .before .before .pre .1))
 
 add-k : tie.Need-add-k Inv-loop μ-loop
 add-k c = let s = c .before .before .before .before .before .before .before .before .before in
     let l = c .before .before .before .before .before .before .loop in
-    omega (arith, chunk-room (l .q) (length (s .args .video .now)) (s .args .chunks * s .args .count) 0 (c .before .before .before .before .before .loop-test .taken))
+    omega (arith, part-room (l .q) (length (s .args .video .now)) (4 * s .args .per) (c .before .before .before .before .before .loop-test .taken))
 
 add-q : tie.Need-add-q Inv-loop μ-loop
 add-q c = search needs
@@ -48,8 +48,8 @@ loop-again c = let s = c .before .before .before .before .before .before .before
     let l = c .before .before .before .before .before .before .loop in (
       omega arith,
       omega (arith, l .inv .1),
-      word-turn _ _ _ _ _ _ _ (l .inv .1) (s .pre .3) _ _ _
-          (omega (arith, chunk-room (l .q) (length (s .args .video .now)) (s .args .chunks * s .args .count) 0 (c .before .before .before .before .before .loop-test .taken), s .pre .0, l .inv .1))
+      word-turn _ _ _ _ _ _ (l .inv .1) _ _ _
+          (omega (arith, part-room (l .q) (length (s .args .video .now)) (4 * s .args .per) (c .before .before .before .before .before .loop-test .taken), s .pre .0, l .inv .1))
           (l .inv .2) (c .before .before .word .ensures),
     )
 
@@ -60,7 +60,7 @@ returns : tie.Need-returns Inv-loop μ-loop
 returns c = let s = c .before .before .before .before in
     let l = c .before .loop in
     let e : l .q ≡ length (s .args .video .now) = omega arith in
-    let k : l .k ≡ s .args .at + length (s .args .video .now) * (s .args .chunks * s .args .count) = l .inv .1 ∙ ap (λ (n : ℕ). s .args .at + n * (s .args .chunks * s .args .count)) e in
+    let k : l .k ≡ s .args .at + length (s .args .video .now) * (4 * s .args .per) = l .inv .1 ∙ ap (λ (n : ℕ). s .args .at + n * (4 * s .args .per)) e in
     paints-painted (s .pre .0) (rw k at (l .inv .2))
 
 pub words-spec : {M : Type 1} → statement M

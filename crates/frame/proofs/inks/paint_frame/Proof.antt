@@ -7,6 +7,9 @@ use Rattle.frame.proofs.inks.paint_frame.Tie as tie
 shades-requires : tie.Need-shades-requires
 shades-requires c κs = depth-most (c .before .before .before .pre .accepted .depth)
 
+bytes-requires : tie.Need-bytes-requires
+bytes-requires c κs = c .before .before .before .before .before .pre .accepted .depth
+
 pens-requires : tie.Need-pens-requires
 pens-requires c κs = search needs
 
@@ -17,9 +20,12 @@ same-length : tie.Need-same-length
 same-length c = search needs
 
 returns : tie.Need-returns
-returns c = let s = c .before .before .before .before .before .before .before .before .before .before .before in
-    frame-law _ _ _ _ _ _ _ _ (depth-most (s .pre .accepted .depth)) (c .before .before .before .before .before .before .pens .ensures) (c .before .before .before .before .before .before .before .shades .ensures) (s .pre .room) (c .before .before .rows .ensures)
+returns c = let s = c .before .before .before .before .before .before .before .before .before .before .before .before .before in
+    frame-law _ _ _ _ _ _ _ _ _ (s .pre .accepted .depth) (c .before .before .before .before .before .before .pens .ensures)
+    (c .before .before .before .before .before .before .before .before .before .shades .ensures) (c .before .before .before .before .before .before .before .bytes .ensures)
+    (s .pre .room) (c .before .before .rows .ensures)
 
 pub paint-frame-spec : {M : Type 1} → statement M
 paint-frame-spec =
-    tie.close (tie.spec shades-requires pens-requires rows-requires same-length returns)
+    tie.close
+    (tie.spec shades-requires bytes-requires pens-requires rows-requires same-length returns)

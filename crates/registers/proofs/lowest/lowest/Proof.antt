@@ -1,49 +1,44 @@
 use borrow.Author.Needs.{needs}
-use Rattle.registers.proofs.First.{lowest-here, lowest-more, lowest-end}
-use Rattle.registers.specs.Lowest.{lowest, faultAt}
-use native.Mathlib.Omega.{arith}
-use mathlib.Core.Path.{_≡_, refl, sym, _∙_}
-use Prim.Native.Nat.{_-_, _≤_}
 use Rattle.registers.proofs.lowest.lowest.Statement.{statement}
 use Rattle.registers.proofs.lowest.lowest.Tie as tie
 
-abbrev Inv-loop : tie.InvT-loop
-Inv-loop g fault slot₀ slot = (slot ≤ 64) × (lowest (faultAt g fault) 64 0 ≡ lowest (faultAt g fault) (64 - slot) slot)
+enum-told : tie.Need-enum-told
+enum-told c = search needs
 
-abbrev μ-loop : tie.MeasureT-loop
-μ-loop g fault slot₀ slot = 64 - slot
+lowest-missing-requires : tie.Need-lowest-missing-requires
+lowest-missing-requires c κs = search needs
 
-loop-holds : tie.Need-loop-holds Inv-loop μ-loop
-loop-holds c = (omega arith, refl)
+enum-told-2 : tie.Need-enum-told-2
+enum-told-2 c = search needs
 
-has-fault-requires : tie.Need-has-fault-requires Inv-loop μ-loop
-has-fault-requires c κs = search needs
+lowest-sound-missing-requires : tie.Need-lowest-sound-missing-requires
+lowest-sound-missing-requires c κs = search needs
 
-returns : tie.Need-returns Inv-loop μ-loop
-returns c = sym (c .before .before .before .loop .inv .1 ∙ lowest-here (faultAt (c .before .before .before .before .args .g) (c .before .before .before .before .args .fault)) 64 _ (omega arith) (sym (c .before .has-fault .ensures) ∙ c .if1 .taken))
+enum-told-3 : tie.Need-enum-told-3
+enum-told-3 c = search needs
 
-add-slot : tie.Need-add-slot Inv-loop μ-loop
-add-slot c = search needs
+lowest-sound-wrong-requires : tie.Need-lowest-sound-wrong-requires
+lowest-sound-wrong-requires c κs = search needs
 
-loop-less : tie.Need-loop-less Inv-loop μ-loop
-loop-less c = search needs
+returns : tie.Need-returns
+returns c = simp (c .before .enum-told .given .1, c .lowest-missing .ensures)
 
-loop-again : tie.Need-loop-again Inv-loop μ-loop
-loop-again c = (omega arith, c .before .before .before .loop .inv .1 ∙ lowest-more (faultAt (c .before .before .before .before .args .g) (c .before .before .before .before .args .fault)) 64 _ (omega arith) (sym (c .before .has-fault .ensures) ∙ c .if1 .left))
+returns-2 : tie.Need-returns-2
+returns-2 c = simp (c .before .enum-told2 .given .1, c .lowest-sound-missing .ensures)
 
-returns-2 : tie.Need-returns-2 Inv-loop μ-loop
-returns-2 c = sym (c .before .loop .inv .1 ∙ lowest-end (faultAt (c .before .before .args .g) (c .before .before .args .fault)) 64 _ (omega arith))
+returns-3 : tie.Need-returns-3
+returns-3 c = simp (c .before .enum-told3 .given .1, c .lowest-sound-wrong .ensures)
 
 pub lowest-spec : {M : Type 1} → statement M
 lowest-spec =
     tie.close
     (tie.spec
-    Inv-loop
-    μ-loop
-    loop-holds
-    has-fault-requires
+    enum-told
+    lowest-missing-requires
+    enum-told-2
+    lowest-sound-missing-requires
+    enum-told-3
+    lowest-sound-wrong-requires
     returns
-    add-slot
-    loop-less
-    loop-again
-    returns-2)
+    returns-2
+    returns-3)

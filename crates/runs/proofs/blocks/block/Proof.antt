@@ -18,16 +18,16 @@ enum-told-2 : tie.Need-enum-told-2
 enum-told-2 c = search needs
 
 mul-wave-block : tie.Need-mul-wave-block
-mul-wave-block c = let h = heard-held _ _ _ (c .before .before .before .before .before .before .hear .ensures) (c .before .before .enum-told2 .given .1) in  record { fits = omega (arith, h .sound-first, h .inside, h .few) }
+mul-wave-block c = let h = heard-held _ _ _ (c .before .before .before .before .before .before .hear .ensures) (c .before .before .enum-told2 .given .1) in record { fits = omega (arith, h .sound-first, h .inside, h .few) }
 
 sub-wave-block : tie.Need-sub-wave-block
-sub-wave-block c = let h = heard-held _ _ _ (c .before .before .before .before .before .before .hear .ensures) (c .before .before .enum-told2 .given .1) in  omega (arith, h .sound-first, h .inside, h .few)
+sub-wave-block c = let h = heard-held _ _ _ (c .before .before .before .before .before .before .hear .ensures) (c .before .before .enum-told2 .given .1) in omega (arith, h .sound-first, h .inside, h .few)
 
 part-wave-block-start : tie.Need-part-wave-block-start
-part-wave-block-start c = let h = heard-held _ _ _ (c .before .before .before .before .before .before .before .hear .ensures) (c .before .before .before .enum-told2 .given .1) in  omega (arith, h .sound-first, h .inside, h .few)
+part-wave-block-start c = let h = heard-held _ _ _ (c .before .before .before .before .before .before .before .hear .ensures) (c .before .before .before .enum-told2 .given .1) in omega (arith, h .sound-first, h .inside, h .few)
 
 part-wave-block-end : tie.Need-part-wave-block-end
-part-wave-block-end c = let h = heard-held _ _ _ (c .before .before .before .before .before .before .before .hear .ensures) (c .before .before .before .enum-told2 .given .1) in  omega (arith, h .sound-first, h .inside, h .few)
+part-wave-block-end c = let h = heard-held _ _ _ (c .before .before .before .before .before .before .before .hear .ensures) (c .before .before .before .enum-told2 .given .1) in omega (arith, h .sound-first, h .inside, h .few)
 
 wave-block-requires : tie.Need-wave-block-requires
 wave-block-requires c κs = (search needs, heard-few _ _ _ (c .before .before .before .before .before .before .before .before .hear .ensures) (c .before .before .before .before .enum-told2 .given .1), heard-sound _ _ _ (c .before .before .before .before .before .before .before .before .hear .ensures) (c .before .before .before .before .enum-told2 .given .1))

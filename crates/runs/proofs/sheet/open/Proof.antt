@@ -15,28 +15,28 @@ enum-told : tie.Need-enum-told
 enum-told c = search needs
 
 mul-judge : tie.Need-mul-judge
-mul-judge c = let h = taken-held _ _ _ (c .before .before .before .before .before .before .take .ensures) (c .before .enum-told .given .1) in  record { fits = omega (arith, h .video-first, h .cursor-first, h .sound-first, h .inside, h .few) }
+mul-judge c = let h = taken-held _ _ _ (c .before .before .before .before .before .before .take .ensures) (c .before .enum-told .given .1) in record { fits = omega (arith, h .video-first, h .cursor-first, h .sound-first, h .inside, h .few) }
 
 sub-judge : tie.Need-sub-judge
-sub-judge c = let h = taken-held _ _ _ (c .before .before .before .before .before .before .take .ensures) (c .before .enum-told .given .1) in  omega (arith, h .video-first, h .cursor-first, h .sound-first, h .inside, h .few)
+sub-judge c = let h = taken-held _ _ _ (c .before .before .before .before .before .before .take .ensures) (c .before .enum-told .given .1) in omega (arith, h .video-first, h .cursor-first, h .sound-first, h .inside, h .few)
 
 part-judge-start : tie.Need-part-judge-start
-part-judge-start c = let h = taken-held _ _ _ (c .before .before .before .before .before .before .before .take .ensures) (c .before .before .enum-told .given .1) in  omega (arith, h .video-first, h .cursor-first, h .sound-first, h .inside, h .few)
+part-judge-start c = let h = taken-held _ _ _ (c .before .before .before .before .before .before .before .take .ensures) (c .before .before .enum-told .given .1) in omega (arith, h .video-first, h .cursor-first, h .sound-first, h .inside, h .few)
 
 part-judge-end : tie.Need-part-judge-end
-part-judge-end c = let h = taken-held _ _ _ (c .before .before .before .before .before .before .before .take .ensures) (c .before .before .enum-told .given .1) in  omega (arith, h .video-first, h .cursor-first, h .sound-first, h .inside, h .few)
+part-judge-end c = let h = taken-held _ _ _ (c .before .before .before .before .before .before .before .take .ensures) (c .before .before .enum-told .given .1) in omega (arith, h .video-first, h .cursor-first, h .sound-first, h .inside, h .few)
 
 mul-judge-2 : tie.Need-mul-judge-2
-mul-judge-2 c = let h = taken-held _ _ _ (c .before .before .before .before .before .before .before .before .take .ensures) (c .before .before .before .enum-told .given .1) in  record { fits = omega (arith, h .video-first, h .cursor-first, h .sound-first, h .inside, h .few) }
+mul-judge-2 c = let h = taken-held _ _ _ (c .before .before .before .before .before .before .before .before .take .ensures) (c .before .before .before .enum-told .given .1) in record { fits = omega (arith, h .video-first, h .cursor-first, h .sound-first, h .inside, h .few) }
 
 sub-judge-2 : tie.Need-sub-judge-2
-sub-judge-2 c = let h = taken-held _ _ _ (c .before .before .before .before .before .before .before .before .take .ensures) (c .before .before .before .enum-told .given .1) in  omega (arith, h .video-first, h .cursor-first, h .sound-first, h .inside, h .few)
+sub-judge-2 c = let h = taken-held _ _ _ (c .before .before .before .before .before .before .before .before .take .ensures) (c .before .before .before .enum-told .given .1) in omega (arith, h .video-first, h .cursor-first, h .sound-first, h .inside, h .few)
 
 part-judge-start-2 : tie.Need-part-judge-start-2
-part-judge-start-2 c = let h = taken-held _ _ _ (c .before .before .before .before .before .before .before .before .take .ensures) (c .before .before .before .enum-told .given .1) in  omega (arith, h .video-first, h .cursor-first, h .sound-first, h .inside, h .few)
+part-judge-start-2 c = let h = taken-held _ _ _ (c .before .before .before .before .before .before .before .before .take .ensures) (c .before .before .before .enum-told .given .1) in omega (arith, h .video-first, h .cursor-first, h .sound-first, h .inside, h .few)
 
 part-judge-end-2 : tie.Need-part-judge-end-2
-part-judge-end-2 c = let h = taken-held _ _ _ (c .before .before .before .before .before .before .before .before .take .ensures) (c .before .before .before .enum-told .given .1) in  omega (arith, h .video-first, h .cursor-first, h .sound-first, h .inside, h .few)
+part-judge-end-2 c = let h = taken-held _ _ _ (c .before .before .before .before .before .before .before .before .take .ensures) (c .before .before .before .enum-told .given .1) in omega (arith, h .video-first, h .cursor-first, h .sound-first, h .inside, h .few)
 
 judge-requires : tie.Need-judge-requires
 judge-requires c κs = search needs

@@ -4,6 +4,18 @@ use borrow.Author.Needs.{needs}
 use Rattle.sound.proofs.values.put_word.Statement.{statement}
 use Rattle.sound.proofs.values.put_word.Tie as tie
 
+cast-a : tie.Need-cast-a
+cast-a c = search needs
+
+cast-b : tie.Need-cast-b
+cast-b c = search needs
+
+cast-c : tie.Need-cast-c
+cast-c c = search needs
+
+cast-d : tie.Need-cast-d
+cast-d c = search needs
+
 advanced-requires : tie.Need-advanced-requires
 advanced-requires c κs = search needs
 
@@ -13,17 +25,11 @@ advanced-requires-2 c κs = search needs
 advanced-requires-3 : tie.Need-advanced-requires-3
 advanced-requires-3 c κs = search needs
 
-cast-put-byte : tie.Need-cast-put-byte
-cast-put-byte c = search needs
-
 put-byte-requires : tie.Need-put-byte-requires
 put-byte-requires c κs = search needs
 
 add-put-byte : tie.Need-add-put-byte
 add-put-byte c = search needs
-
-cast-put-byte-2 : tie.Need-cast-put-byte-2
-cast-put-byte-2 c = search needs
 
 put-byte-requires-2 : tie.Need-put-byte-requires-2
 put-byte-requires-2 c κs = search needs
@@ -31,17 +37,11 @@ put-byte-requires-2 c κs = search needs
 add-put-byte-2 : tie.Need-add-put-byte-2
 add-put-byte-2 c = search needs
 
-cast-put-byte-3 : tie.Need-cast-put-byte-3
-cast-put-byte-3 c = search needs
-
 put-byte-requires-3 : tie.Need-put-byte-requires-3
 put-byte-requires-3 c κs = search needs
 
 add-put-byte-3 : tie.Need-add-put-byte-3
 add-put-byte-3 c = search needs
-
-cast-put-byte-4 : tie.Need-cast-put-byte-4
-cast-put-byte-4 c = search needs
 
 put-byte-requires-4 : tie.Need-put-byte-requires-4
 put-byte-requires-4 c κs = search needs
@@ -51,32 +51,25 @@ same-length c = search needs
 
 returns : tie.Need-returns
 returns c = let a = c .before .before .before .before .before .before .before .before .before .before .before .before .before .before .before .args in
-    word-put (inTable (a .lefts .now)) (inTable (a .rights .now)) (a .out .now) _ _ _ _ (a .at) (a .word) (a .counter) _ _ _
-    (c .before .before .before .before .before .before .before .before .before .before .before .before .before .before .advanced .ensures)
-    (c .before .before .before .before .before .before .before .before .before .before .before .before .before .advanced2 .ensures)
-    (c .before .before .before .before .before .before .before .before .before .before .before .before .advanced3 .ensures)
-    (c .before .before .before .before .before .before .before .before .before .before .put-byte .ensures)
-    (c .before .before .before .before .before .before .before .put-byte2 .ensures)
-    (c .before .before .before .before .put-byte3 .ensures)
-    (c .before .put-byte4 .ensures)
+    word-put (inTable (a .lefts .now)) (inTable (a .rights .now)) (a .out .now) _ _ _ _ (a .at) (a .word) (a .counter) _ _ _ (c .before .before .before .before .before .before .before .before .before .before .before .before .before .before .advanced .ensures) (c .before .before .before .before .before .before .before .before .before .before .before .before .before .advanced2 .ensures) (c .before .before .before .before .before .before .before .before .before .before .before .before .advanced3 .ensures) (c .before .before .before .before .before .before .before .before .before .before .put-byte .ensures) (c .before .before .before .before .before .before .before .put-byte2 .ensures) (c .before .before .before .before .put-byte3 .ensures) (c .before .put-byte4 .ensures)
 
 pub put-word-spec : {M : Type 1} → statement M
 put-word-spec =
     tie.close
     (tie.spec
+    cast-a
+    cast-b
+    cast-c
+    cast-d
     advanced-requires
     advanced-requires-2
     advanced-requires-3
-    cast-put-byte
     put-byte-requires
     add-put-byte
-    cast-put-byte-2
     put-byte-requires-2
     add-put-byte-2
-    cast-put-byte-3
     put-byte-requires-3
     add-put-byte-3
-    cast-put-byte-4
     put-byte-requires-4
     same-length
     returns)

@@ -1,86 +1,38 @@
-use native.Mathlib.Omega.{arith}
-use Rattle.registers.proofs.First.{lowest-most}
-use Rattle.registers.specs.declared.lowest.Fault.the-variants.{Unwritten}
-use Rattle.registers.specs.Lowest.{faultAt}
-use Rattle.registers.specs.Check.{checkTold}
+use Rattle.registers.specs.declared.refusal.Answer.the-variants.{Done, Refused}
+use Rattle.registers.specs.declared.record.Registers.{Registers}
+use Rattle.registers.specs.declared.refusal.Answer.{Answer}
+use mathlib.Core.Path.{_≡_, sym, _∙_, ap}
+use Rattle.registers.specs.Table.{given, told, judged, andThen}
+use Rattle.registers.specs.Setting.{settingOf}
+use Rattle.registers.specs.Check.{settingTable, checkTold}
+use Rattle.registers.proofs.Tables.{judged-then}
 use borrow.Author.Needs.{needs}
 use Rattle.registers.proofs.record.Registers.check.Statement.{statement}
 use Rattle.registers.proofs.record.Registers.check.Tie as tie
 
+-- the same table is told for the setting
+told-check : (g : Registers) (a : Answer) → told a ≡ judged (settingTable g) tt → andThen (told a) (λ _. given (settingOf g)) ≡ checkTold g
+unfolding checkTold
+told-check g a e = ap (λ t. andThen t (λ _. given (settingOf g))) e ∙ sym (judged-then tt (settingOf g) (settingTable g))
+
 setting-requires : tie.Need-setting-requires
 setting-requires c κs = search needs
 
-lowest-requires : tie.Need-lowest-requires
-lowest-requires c κs = search needs
+judge-requires : tie.Need-judge-requires
+judge-requires c κs = search needs
 
-cast-address : tie.Need-cast-address
-cast-address c = omega (arith, c .lowest .ensures, lowest-most (faultAt (c .before .before .args .self) Unwritten) 64 0)
+enum-told : tie.Need-enum-told
+enum-told c = search needs
 
-mul-address : tie.Need-mul-address
-mul-address c = omega (arith, c .lowest .ensures, lowest-most (faultAt (c .before .before .args .self) Unwritten) 64 0)
-
-is-cursor-right-requires : tie.Need-is-cursor-right-requires
-is-cursor-right-requires c κs = search needs
-
-refused-if-requires : tie.Need-refused-if-requires
-refused-if-requires c κs = search needs
-
-is-width-right-requires : tie.Need-is-width-right-requires
-is-width-right-requires c κs = search needs
-
-refused-if-requires-2 : tie.Need-refused-if-requires-2
-refused-if-requires-2 c κs = search needs
-
-is-vertical-right-requires : tie.Need-is-vertical-right-requires
-is-vertical-right-requires c κs = search needs
-
-refused-if-requires-3 : tie.Need-refused-if-requires-3
-refused-if-requires-3 c κs = search needs
-
-is-horizontal-right-requires : tie.Need-is-horizontal-right-requires
-is-horizontal-right-requires c κs = search needs
-
-refused-if-requires-4 : tie.Need-refused-if-requires-4
-refused-if-requires-4 c κs = search needs
-
-is-interlaced-requires : tie.Need-is-interlaced-requires
-is-interlaced-requires c κs = search needs
-
-refused-if-requires-5 : tie.Need-refused-if-requires-5
-refused-if-requires-5 c κs = search needs
-
-is-test-mode-requires : tie.Need-is-test-mode-requires
-is-test-mode-requires c κs = search needs
-
-refused-if-requires-6 : tie.Need-refused-if-requires-6
-refused-if-requires-6 c κs = search needs
-
-refused-if-requires-7 : tie.Need-refused-if-requires-7
-refused-if-requires-7 c κs = search needs
+enum-known-why : tie.Need-enum-known-why
+enum-known-why c = search needs
 
 returns : tie.Need-returns
-unfolding checkTold
-returns c = simp (c .refused-if7 .ensures, c .before .refused-if6 .ensures, c .before .before .is-test-mode .ensures, c .before .before .before .refused-if5 .ensures, c .before .before .before .before .is-interlaced .ensures, c .before .before .before .before .before .refused-if4 .ensures, c .before .before .before .before .before .before .is-horizontal-right .ensures, c .before .before .before .before .before .before .before .refused-if3 .ensures, c .before .before .before .before .before .before .before .before .is-vertical-right .ensures, c .before .before .before .before .before .before .before .before .before .refused-if2 .ensures, c .before .before .before .before .before .before .before .before .before .before .is-width-right .ensures, c .before .before .before .before .before .before .before .before .before .before .before .refused-if .ensures, c .before .before .before .before .before .before .before .before .before .before .before .before .is-cursor-right .ensures, c .before .before .before .before .before .before .before .before .before .before .before .before .before .lowest .ensures, c .before .before .before .before .before .before .before .before .before .before .before .before .before .before .setting .ensures)
+returns c = rw (c .before .before .before .setting .ensures) (told-check (c .before .before .before .before .args .self) Done (sym (ap told (c .enum-told .given .1)) ∙ c .before .before .judge .ensures))
+
+returns-2 : tie.Need-returns-2
+returns-2 c = told-check (c .before .before .before .before .before .args .self) (Refused (c .before .why .given .0 .0)) (sym (ap told (c .before .why .given .1)) ∙ c .before .before .before .judge .ensures)
 
 pub check-spec : {M : Type 1} → statement M
 check-spec =
-    tie.close
-    (tie.spec
-    setting-requires
-    lowest-requires
-    cast-address
-    mul-address
-    is-cursor-right-requires
-    refused-if-requires
-    is-width-right-requires
-    refused-if-requires-2
-    is-vertical-right-requires
-    refused-if-requires-3
-    is-horizontal-right-requires
-    refused-if-requires-4
-    is-interlaced-requires
-    refused-if-requires-5
-    is-test-mode-requires
-    refused-if-requires-6
-    refused-if-requires-7
-    returns)
+    tie.close (tie.spec setting-requires judge-requires enum-told enum-known-why returns returns-2)

@@ -1,19 +1,19 @@
 use lib.Pow.{pow-pos}
 use native.Mathlib.Omega.{arith}
 use borrow.Author.Needs.{needs}
-use Rattle.frame.proofs.Words.{one-shifted, low-bits, whole-word, next-from, pixel-ink}
-use Rattle.frame.specs.Ink.{from, wordInk}
+use Rattle.frame.proofs.Words.{one-shifted, low-bits, whole-byte, next-from, pixel-ink}
+use Rattle.frame.specs.Ink.{from, byteInk}
 use Prim.Native.Nat.{ℕ, _+_, _*_, _-_, _/_, _^_, _≤_}
 use mathlib.Core.Path.{_≡_, ap, _∙_}
 use Rattle.buffers.proofs.Paints.{Paints, paint-none, paint-more, paints-painted}
-use Rattle.frame.proofs.decode.some.Statement.{statement}
-use Rattle.frame.proofs.decode.some.Tie as tie
+use Rattle.frame.proofs.bytes.pixels.Statement.{statement}
+use Rattle.frame.proofs.bytes.pixels.Tie as tie
 
 abbrev Inv-loop : tie.InvT-loop
-Inv-loop out₀ at count w d table m end rest₀ k₀ out rest k = (at ≤ k) × (k ≤ end) × (rest ≡ w / 2 ^ ((k - at) * d)) × Paints 0 out₀ out at k (from at (wordInk table w d))
+Inv-loop out₀ at count byte d shades m end rest₀ k₀ out rest k = (at ≤ k) × (k ≤ end) × (rest ≡ byte / 2 ^ ((k - at) * d)) × Paints 0 out₀ out at k (from at (byteInk shades byte d))
 
 abbrev μ-loop : tie.MeasureT-loop
-μ-loop out₀ at count w d table m end rest₀ k₀ out rest k = end - k
+μ-loop out₀ at count byte d shades m end rest₀ k₀ out rest k = end - k
 
 shl-m : tie.Need-shl-m Inv-loop μ-loop
 shl-m c = search needs
@@ -22,7 +22,7 @@ add-end : tie.Need-add-end Inv-loop μ-loop
 add-end c = search needs
 
 loop-holds : tie.Need-loop-holds Inv-loop μ-loop
-loop-holds c = (omega arith, omega arith, whole-word _ _ _, paint-none _ _)
+loop-holds c = (omega arith, omega arith, whole-byte _ _ _, paint-none _ _)
 
 rem-out : tie.Need-rem-out Inv-loop μ-loop
 rem-out c = rw (one-shifted _ (c .before .before .pre .1)) (pow-pos _)
@@ -68,8 +68,8 @@ returns c = let s = c .before .before in
     let e : c .before .loop .k ≡ s .args .at + s .args .count = omega arith in
     paints-painted (s .pre .0) (rw e at (c .before .loop .inv .3))
 
-pub some-spec : {M : Type 1} → statement M
-some-spec =
+pub pixels-spec : {M : Type 1} → statement M
+pixels-spec =
     tie.close
     (tie.spec
     Inv-loop
