@@ -1,4 +1,4 @@
-// A plate taken apart, judged and described, page by page.
+// A plate taken apart, judged and described.
 use crate::line::Line;
 use crate::summary::print_setting;
 use crate::verdicts::print_verdict;
@@ -86,6 +86,7 @@ fn print_sections(bytes: usize, words: &[u32], r: usize, v: usize, c: usize, s: 
 fn print_file(plate: &[u8], p: Sections) -> bool
     requires { ⌜ (p .v ≤ p .r) × (p .c ≤ p .v) × (p .s ≤ p .c) × (p .r ≤ 16384) ⌝ }
 {
+    // room for all words of the longest plate that is taken
     let mut words = [0u32; 16384];
     plates::copy_out(plate, &mut words);
     print_sections(
@@ -104,6 +105,7 @@ fn print_untaken(head: Line, why: Refusal) -> bool {
     head.print() && print_refused(why, &words[0..0])
 }
 
+// What is in a plate, and whether all of it was written.
 pub fn print_plate(plate: &[u8]) -> bool {
     if MOST_INPUT < plate.len() {
         return print_untaken(

@@ -1,4 +1,4 @@
-// Values in words: colours, positions, sixths, rates, the control bits.
+// Values in words: colours, the depth, sixths, the sound's rate, the control bits.
 use crate::line::Line;
 use registers::record::Registers;
 use sound::Pairing;

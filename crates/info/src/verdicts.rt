@@ -8,6 +8,7 @@ use registers::refusal::Answer;
 use registers::refusal::Refusal;
 use registers::setting::Setting;
 
+// A number of those that a rule compares.
 fn put_then(line: Line, x: u16) -> Line {
     line.text(b", ").small(x)
 }
@@ -37,6 +38,7 @@ fn put_reserved(line: Line, words: &[u32], index: u32) -> Line {
     let line = line.text(b"word ")
         .number(k as u64)
         .text(b" has a reserved address");
+    // a refusal's index is that of a word, so this does not arise
     if words.len() <= k {
         return line;
     }
