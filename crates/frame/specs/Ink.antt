@@ -54,9 +54,9 @@ unfoldable pub ink : Setting → List ℕ → List ℕ → List ℕ → List ℕ
 ink s pens table video cursor y x =
     pick (covered s cursor x y) (getD pens (cursorPair s cursor y (x - s .cx .0)) 0) (plainInk s pens table video y x)
 
--- Place k of rasters one after another, from the first on.
-unfoldable pub rowsInk : Setting → List ℕ → List ℕ → List ℕ → List ℕ → ℕ → ℕ → ℕ
-rowsInk s pens table video cursor first k = ink s pens table video cursor (first + k / s .n .0) (k % s .n .0)
+-- Place k of a frame.
+unfoldable pub frameInk : Setting → List ℕ → List ℕ → List ℕ → List ℕ → ℕ → ℕ
+frameInk s pens table video cursor k = ink s pens table video cursor (k / s .n .0) (k % s .n .0)
 
 -- The cursor over cells that stand in a raster at place `at`.
 unfoldable pub coverInk : Setting → List ℕ → List ℕ → ℕ → ℕ → List ℕ → ℕ → ℕ

@@ -1,12 +1,13 @@
 // Cells made ready, once for each call: a display cell for each logical pixel, and the cells of border and cursor.
 use crate::bytes::bytes;
+use crate::rows::row;
 use crate::rows::rows;
 use colours::colour;
 use registers::record::Registers;
 use registers::setting::Setting;
 use registers::units::Rasters;
 ghost use mathlib.Core.Path.{_≡_};
-ghost use Prim.Native.Nat.{_^_, _<_, _≤_};
+ghost use Prim.Native.Nat.{_*_, _^_, _≤_};
 ghost use lib.ListN.{replicate};
 ghost use Rattle.buffers.specs.Painted.{painted};
 ghost use Rattle.frame.specs.Frame.{cells, frameCell, rasterCell};
@@ -45,7 +46,7 @@ pub fn paint_frame(out: &mut [u16], g: Registers, s: Setting, video: &[u32], cur
     let cells = shades(g, s.depth);
     let table = bytes(&cells, s.depth);
     let inks = pens(g);
-    rows(out, s, Rasters(0), s.v, &inks, &table, video, cursor);
+    rows(out, s, &inks, &table, video, cursor);
 }
 
 pub fn paint_raster(
@@ -56,13 +57,12 @@ pub fn paint_raster(
     video: &[u32],
     cursor: &[u32],
 )
-    requires { ⌜ Lent s (s .n .0) (now video) (now cursor) (now out) × (y .0 < s .v .0) ⌝ }
+    requires { ⌜ Lent s (s .n .0) (now video) (now cursor) (now out) ⌝ }
     ensures { λ _. ⌜ now (out .exit) ≡ painted (now (out .entry)) 0 (s .n .0)
         (rasterCell g s (now (video .entry)) (now (cursor .entry)) (y .0)) ⌝ }
 {
     let cells = shades(g, s.depth);
     let table = bytes(&cells, s.depth);
     let inks = pens(g);
-    let end = Rasters(y.0 + 1);
-    rows(out, s, y, end, &inks, &table, video, cursor);
+    row(out, 0, s, y, &inks, &table, video, cursor);
 }

@@ -1,7 +1,5 @@
 use Rattle.registers.proofs.Words.{depth-most}
 use Rattle.frame.proofs.Ready.{frame-law}
-use native.Mathlib.Nat.{sub-zero}
-use native.Mathlib.Omega.{arith}
 use borrow.Author.Needs.{needs}
 use Rattle.frame.proofs.inks.paint_frame.Statement.{statement}
 use Rattle.frame.proofs.inks.paint_frame.Tie as tie
@@ -10,19 +8,22 @@ shades-requires : tie.Need-shades-requires
 shades-requires c κs = depth-most (c .before .before .before .pre .accepted .depth)
 
 bytes-requires : tie.Need-bytes-requires
-bytes-requires c κs = search needs
+bytes-requires c κs = c .before .before .before .before .before .pre .accepted .depth
 
 pens-requires : tie.Need-pens-requires
 pens-requires c κs = search needs
 
 rows-requires : tie.Need-rows-requires
-rows-requires c κs = (rw (sub-zero (c .before .before .before .before .before .before .before .before .before .before .args .s .v .0)) (c .before .before .before .before .before .before .before .before .before .before .pre), omega arith)
+rows-requires c κs = search needs
 
 same-length : tie.Need-same-length
 same-length c = search needs
 
 returns : tie.Need-returns
-returns c = frame-law _ _ _ _ _ _ _ _ _ (c .before .before .before .before .before .before .before .before .before .before .before .before .before .pre .accepted .depth) (c .before .before .before .before .before .before .pens .ensures) (c .before .before .before .before .before .before .before .before .before .shades .ensures) (c .before .before .before .before .before .before .before .bytes .ensures) (c .before .before .before .before .before .before .before .before .before .before .before .before .before .pre .room) (c .before .before .rows .ensures)
+returns c = let s = c .before .before .before .before .before .before .before .before .before .before .before .before .before in
+    frame-law _ _ _ _ _ _ _ _ _ (s .pre .accepted .depth) (c .before .before .before .before .before .before .pens .ensures)
+    (c .before .before .before .before .before .before .before .before .before .shades .ensures) (c .before .before .before .before .before .before .before .bytes .ensures)
+    (s .pre .room) (c .before .before .rows .ensures)
 
 pub paint-frame-spec : {M : Type 1} → statement M
 paint-frame-spec =

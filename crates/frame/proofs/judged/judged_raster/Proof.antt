@@ -21,7 +21,7 @@ returns-3 : tie.Need-returns-3
 returns-3 c = (simp (sym (c .before .before .before .before .before .before .words-wrong .ensures) ∙ c .before .before .before .before .before .if1 .left, lt-leb _ _ (c .before .before .if2 .left), lt-ltb _ _ (rw (c .before .wide .ensures) at (c .if3 .taken))), refl)
 
 paint-raster-requires : tie.Need-paint-raster-requires
-paint-raster-requires c κs = (lent-by (c .before .before .before .before .before .before .before .before .before .before .before .pre) (rw (c .before .before .wide .ensures) at (c .before .if3 .left)) (sym (c .before .before .before .before .before .before .before .words-wrong .ensures) ∙ c .before .before .before .before .before .before .if1 .left), search needs)
+paint-raster-requires c κs = lent-by (c .before .before .before .before .before .before .before .before .before .before .before .pre) (rw (c .before .before .wide .ensures) at (c .before .if3 .left)) (sym (c .before .before .before .before .before .before .before .words-wrong .ensures) ∙ c .before .before .before .before .before .before .if1 .left)
 
 same-length : tie.Need-same-length
 same-length c = search needs
