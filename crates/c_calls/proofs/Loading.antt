@@ -1,6 +1,6 @@
 -- Loading into a record that C holds.
 use Prim.Native.Nat.{ℕ}
-use mathlib.Core.Path.{_≡_, refl, sym, _∙_, ap}
+use mathlib.Core.Path.{_≡_, _∙_, ap}
 use mathlib.Core.Bool.{true, false}
 use mathlib.Core.List.{List}
 use Rattle.registers.specs.Table.{Told, given, refused, andThen, unlessRefused}

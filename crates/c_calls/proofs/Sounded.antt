@@ -11,7 +11,7 @@ use lib.Dec.{ltb}
 use lib.IntN.{ℤ}
 use lib.ListN.{length, set}
 use lib.Seq.{sets}
-use Rattle.registers.specs.Table.{Told, given, refused, andThen, unlessRefused, row, judged}
+use Rattle.registers.specs.Table.{Told, given, refused, andThen, row, judged}
 use Rattle.sound.specs.declared.Sides.{Sides}
 use Rattle.registers.specs.Sound.{soundTold}
 use Rattle.registers.specs.declared.record.Registers.{Registers}

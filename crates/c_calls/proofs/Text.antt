@@ -7,7 +7,7 @@ use native.Mathlib.Numerals.{add-one}
 use native.Mathlib.Omega.{arith}
 use borrow.Author.Tests.{ltb-false, le-leb, ne-eqb}
 use lib.ListN.{length, length-append, take, drop}
-use lib.Seq.{sets, sets-eq, take-append-seam, length-sets}
+use lib.Seq.{sets, sets-eq, take-append-seam}
 use lib.Dec.{ltb}
 use Rattle.buffers.proofs.Sets.{sets-append}
 use Rattle.registers.specs.Table.{Told, given, refused}
@@ -29,9 +29,6 @@ use Rattle.c_calls.proofs.Answers.{short}
 -- A list with a last byte has a byte.
 ends : (l : List ℕ) (x : ℕ) → 1 ≤ length (l ++ (x ∷ []))
 ends l x = rw length-append (omega arith)
-
-ends-2 : (a b : List ℕ) → 1 ≤ length b → 1 ≤ length (a ++ b)
-ends-2 a b h = rw length-append (omega arith)
 
 some-line : (l : List ℕ) → 1 ≤ length (lineOf l)
 unfolding lineOf
@@ -113,12 +110,6 @@ line-bytes o p vs n put =
     let e : n - 0 ≡ length vs = omega (arith, put .after) in
     let f : 0 + length vs ≤ length o = omega (arith, put .after, put .inside) in
     rw (e, put .stored, sets-eq vs o 0 f) (take-append-seam vs _)
-
--- A line measured is at most what its memory holds.
-pub line-most : (o p vs : List ℕ) (n : ℕ) → length p ≡ 8256 → Put o p 0 vs n → (n ≡ length vs) × (n ≤ 8256)
-line-most o p vs n h put =
-    let e : length p ≡ length o = simp length-sets at (ap length (put .stored)) in
-    (omega (arith, put .after), omega (arith, put .inside))
 
 module _ (file : List ℕ) where
   pub lines-room : (k : ℕ) → k ≤ linesFor (sheetTold file) → length (firstLines file k) + length (lineAt file k) ≤ length (textOf file)

@@ -1,6 +1,6 @@
 -- For each call, any two answers and any two states of the lent memory that its contract permits are the same.
 use Prim.Native.Nat.{ℕ}
-use mathlib.Core.Path.{_≡_, sym, _∙_}
+use mathlib.Core.Path.{sym, _∙_}
 use mathlib.Core.List.{List}
 use lib.IntN.{ℤ}
 use denote.Ref.{now}

@@ -1,6 +1,6 @@
 -- Plates written, with a place for the length.
 use Prim.Native.Nat.{ℕ, _≤_, _<_}
-use mathlib.Core.Path.{_≡_, refl, sym, _∙_, ap}
+use mathlib.Core.Path.{_≡_, refl, _∙_, ap}
 use mathlib.Core.Bool.{Bool, true, false}
 use mathlib.Core.List.{List, [], _∷_}
 use native.Mathlib.Omega.{arith}
@@ -13,7 +13,7 @@ use Rattle.plates.specs.Plate.{mostBytes, plateLength}
 use Rattle.plates.specs.Write.{writeTold, writeLeaves}
 use Rattle.c_calls.specs.Code.{codeOf, withRoom}
 use Rattle.c_calls.specs.Files.{writeCall, plateLeaves, lengthBy, lengthLeaves}
-use Rattle.c_calls.proofs.Answers.{short, Refuses, room-enough, room-short}
+use Rattle.c_calls.proofs.Answers.{short, Refuses, room-short}
 
 -- Without room, 13 for `out` plays no part, nor whether a length would be stored.
 unmeasured-by : (large fits more : Bool) (n room other : ℕ) → room < 1 → other < 1

@@ -1,7 +1,5 @@
 -- The thirteen marked cases hold, by computation.
-use mathlib.Core.Path.{_≡_, refl}
-use mathlib.Core.List.{[], _∷_}
-use lib.ListN.{length}
+use mathlib.Core.Path.{refl}
 use Rattle.buffers.specs.Painted.{eachFrom, painted}
 use Rattle.registers.specs.Record.{storedOf}
 use Rattle.registers.specs.Load.{applied}

@@ -1,5 +1,5 @@
 -- Sync and blank cells are black in a picture.
-use Prim.Native.Nat.{ℕ, _*_, _+_, _%_, _≤_}
+use Prim.Native.Nat.{ℕ, _≤_}
 use mathlib.Core.Path.{_≡_, refl}
 use mathlib.Core.List.{List}
 use native.Mathlib.Omega.{arith}

@@ -1,8 +1,7 @@
 -- Demand 2, as the user says it: a setting is accepted exactly when every rule holds; each cell, mark count and sound value is
 -- then the rule's; plates read back, and are written again the same.
-use Prim.Native.Nat.{ℕ, _*_, _/_, _%_, _<_, _≤_}
-use mathlib.Core.Path.{_≡_, refl, sym, _∙_, ap}
-use mathlib.Core.Bool.{Bool, true, false}
+use Prim.Native.Nat.{ℕ, _<_, _≤_}
+use mathlib.Core.Path.{_≡_, sym, _∙_, ap}
 use mathlib.Core.List.{List}
 use mathlib.Core.Logic.{_↔_}
 use native.Mathlib.Omega.{arith}
@@ -13,7 +12,7 @@ use Rattle.buffers.specs.Painted.{painted}
 use Rattle.buffers.proofs.Paints.{Paints, paints-of}
 use Rattle.registers.specs.Table.{Told, given, told, unlessRefused}
 use Rattle.registers.specs.Setting.{settingOf, videoWords, cursorWords}
-use Rattle.registers.specs.Check.{checkSays, checkTold}
+use Rattle.registers.specs.Check.{checkSays}
 use Rattle.registers.specs.Rules.{EveryRule}
 use Rattle.registers.specs.declared.record.Registers.{Registers}
 use Rattle.registers.proofs.Exactly.{exactly}
@@ -23,7 +22,7 @@ use Rattle.frame.specs.Cell.{cell}
 use Rattle.frame.specs.Frame.{cells, frameCell, rasterCell, rasterTold, rasterHeld}
 use Rattle.frame.proofs.raster.Kinds as raster-kinds
 use Rattle.frame.proofs.raster.Reads as raster-reads
-use Rattle.marks.specs.Count.{total, bit, countBelow}
+use Rattle.marks.specs.Count.{bit, countBelow}
 use Rattle.marks.specs.Marks.{isMark, marksOf, marksTold, marksSays}
 use Rattle.marks.proofs.Totals.{total-as}
 use Rattle.marks.proofs.marks.Kinds as marks-kinds

@@ -1,7 +1,7 @@
 -- The two cases of demand 3 leave no third: entries in use differ in a shown bit everywhere, or two agree in all of them.
 use Prim.Native.Nat.{ℕ, zero, suc, _<_, _≤_}
 use mathlib.Core.Path.{_≡_, sym, subst}
-use mathlib.Core.Bool.{Bool, true, false}
+use mathlib.Core.Bool.{true, false}
 use mathlib.Core.Logic.{_⊎_, inl, inr}
 use native.Mathlib.Omega.{arith}
 use Rattle.buffers.proofs.Split.{lt-or-le, true-or-false}

@@ -1,6 +1,6 @@
 -- The exhibited lists: right in size, words of 32 bits, the pixel put there, and no other pixel changed. Over any depth.
 use Prim.Native.Nat.{ℕ, _+_, _*_, _-_, _/_, _%_, _^_, _<_, _≤_}
-use mathlib.Core.Path.{_≡_, refl, sym, _∙_, ap}
+use mathlib.Core.Path.{_≡_, sym, _∙_, ap}
 use mathlib.Core.List.{List}
 use mathlib.Core.Logic.{_⊎_, inl, inr}
 use native.Mathlib.Nat.{zero-div, zero-mod, lt-of-lt-of-le, add-mul, mul-assoc, mul-mod-left, mod-eq-of-lt, mod-lt, div-eq-of-lt, div-add-mod', mul-le-mul-right, mul-lt-mul-of-pos-right}
@@ -17,7 +17,7 @@ use Rattle.registers.proofs.Words.{depth-least, raster-bits, video-rasters}
 use Rattle.frame.specs.Pixel.{pixel, position}
 use Rattle.frame.proofs.CellCodes.{Displayed}
 use Rattle.frame.proofs.RasterWords.{fills-word}
-use Rattle.frame.proofs.Words.{pixel-field, fill-positive}
+use Rattle.frame.proofs.Words.{pixel-field}
 use Rattle.claims.specs.Exhibited.{onePixel}
 use Rattle.claims.proofs.Bits.{by-cases}
 

@@ -1,29 +1,25 @@
 -- Demand 3: what a frame tells of its video list, and two lists that it cannot tell apart. Once for every depth.
 use Prim.Native.Nat.{ℕ, _+_, _*_, _/_, _%_, _^_, _<_, _≤_}
-use mathlib.Core.Path.{_≡_, refl, sym, _∙_, ap}
-use mathlib.Core.Bool.{Bool, true, false, not}
+use mathlib.Core.Path.{_≡_, sym, _∙_, ap}
+use mathlib.Core.Bool.{true, not}
 use mathlib.Core.List.{List}
 use mathlib.Core.Logic.{_⊎_, inl, inr, _↔_}
 use native.Mathlib.Nat.{mul-le-mul-right, mul-comm}
 use native.Mathlib.Omega.{arith}
 use lib.Arith.{digits-div, digits-mod}
-use lib.Dec.{eqb}
 use lib.ListN.{length, getD, take}
 use lib.Seq.{ext-getD, getD-take, length-take-le}
-use borrow.Author.Tests.{eqb-true, eqb-false}
-use Rattle.buffers.proofs.Split.{true-or-false}
 use Rattle.buffers.proofs.Tests.{and-split}
 use Rattle.buffers.proofs.Words.{Below}
 use Rattle.registers.specs.Table.{given}
 use Rattle.registers.specs.Setting.{settingOf, videoWords, cursorWords}
 use Rattle.registers.specs.Check.{checkTold}
-use Rattle.registers.specs.Geometry.{depthOf}
 use Rattle.registers.specs.declared.record.Registers.{Registers}
 use Rattle.registers.specs.declared.setting.Setting.{Setting}
 use Rattle.registers.proofs.Accepted.{Accepted, accepted}
 use Rattle.colours.specs.Colour.{colourOf}
 use Rattle.frame.specs.Pixel.{pixel, position, logical}
-use Rattle.frame.specs.Cell.{inDisplay, covered, cell}
+use Rattle.frame.specs.Cell.{inDisplay, covered}
 use Rattle.frame.specs.Frame.{cells}
 use Rattle.frame.proofs.CellCodes.{Displayed, displayed}
 use Rattle.frame.proofs.PixelPlaces.{pixel-below}

@@ -1,7 +1,7 @@
 -- Demand 1: for each public call that can refuse, the numbers it can answer, exactly when, and in which order.
 -- Each is said of every run that the call's own promise permits; refused, it leaves lent memory and records as they were.
 use Prim.Native.Nat.{ℕ, _*_, _%_}
-use mathlib.Core.Path.{_≡_, refl, sym, _∙_, ap}
+use mathlib.Core.Path.{_≡_, refl, _∙_, ap}
 use mathlib.Core.Bool.{Bool, true, false}
 use mathlib.Core.List.{List, [], _∷_}
 use lib.Dec.{ltb}
@@ -10,14 +10,13 @@ use lib.Seq.{sets}
 use denote.Ref.{now}
 use Rattle.buffers.specs.Pick.{pick}
 use Rattle.buffers.specs.Painted.{painted}
-use Rattle.registers.specs.Table.{Told, given, refused, Row, row, judged, andThen, told}
+use Rattle.registers.specs.Table.{given, refused, Row, row, judged, told}
 use Rattle.registers.specs.Record.{storedOf}
 use Rattle.registers.specs.Load.{applied, loadTable, loadTold}
 use Rattle.registers.specs.Setting.{settingOf}
 use Rattle.registers.specs.Check.{settingTable, checkTold, checkSays}
 use Rattle.registers.specs.Sound.{soundTable, soundTold}
 use Rattle.registers.specs.declared.record.Registers.{Registers}
-use Rattle.registers.specs.declared.setting.Setting.{Setting}
 use Rattle.registers.proofs.record.Registers.load_word.Kinds as load-word-kinds
 use Rattle.registers.proofs.record.Registers.load_word.Reads as load-word-reads
 use Rattle.registers.proofs.record.Registers.load.Kinds as load-kinds

@@ -1,17 +1,14 @@
 -- What a run of the frame call leaves in lent memory, from the call's own promise: each cell by the cell rule.
-use Prim.Native.Nat.{ℕ, _+_, _*_, _/_, _%_, _<_, _≤_}
-use mathlib.Core.Path.{_≡_, refl, sym, _∙_, ap, subst}
-use mathlib.Core.Bool.{Bool, true, false}
+use Prim.Native.Nat.{ℕ, _/_, _%_, _<_, _≤_}
+use mathlib.Core.Path.{_≡_, sym, _∙_, ap}
 use mathlib.Core.List.{List}
 use native.Mathlib.Omega.{arith}
 use lib.ListN.{length, getD}
 use borrow.Author.Tests.{eq-eqb, le-ltb}
-use denote.Ref.{now}
 use Rattle.buffers.specs.Painted.{painted}
 use Rattle.buffers.proofs.Paints.{Paints, paints-of}
 use Rattle.registers.specs.Table.{Told, given, told, unlessRefused}
 use Rattle.registers.specs.Setting.{settingOf, videoWords, cursorWords}
-use Rattle.registers.specs.Check.{checkTold}
 use Rattle.registers.specs.declared.record.Registers.{Registers}
 use Rattle.frame.specs.Cell.{cell}
 use Rattle.frame.specs.Frame.{cells, frameCell, frameTold, frameHeld}

@@ -3,9 +3,9 @@ use Prim.Native.Nat.{ℕ}
 use mathlib.Core.Path.{_≡_, refl, sym, _∙_, ap, subst}
 use mathlib.Core.Bool.{Bool, true, false}
 use mathlib.Core.List.{List, [], _∷_, _++_}
-use mathlib.Core.Logic.{_⊎_, inl, inr}
+use mathlib.Core.Logic.{inl, inr}
 use Rattle.buffers.specs.Pick.{pick}
-use Rattle.registers.specs.Table.{Told, given, refused, Row, judged, andThen, unlessRefused, First}
+use Rattle.registers.specs.Table.{Told, refused, Row, judged, andThen, unlessRefused, First}
 use Rattle.registers.proofs.Tables.{passes-given, given-passes, refused-first, first-refused}
 use Rattle.claims.specs.Calls.{numbers, OneOf, ByTable, Kept}
 

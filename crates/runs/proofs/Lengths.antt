@@ -1,14 +1,11 @@
 -- How long the text of a run is.
 use Prim.Native.Nat.{ℕ, zero, suc, _+_, _*_, _^_, _<_, _≤_}
-use mathlib.Core.Path.{_≡_, refl, sym, _∙_, ap}
+use mathlib.Core.Path.{_≡_, refl}
 use mathlib.Core.Bool.{Bool, true, false}
-use mathlib.Core.List.{List, [], _∷_, _++_}
 use native.Mathlib.Omega.{arith}
-use native.Mathlib.Nat.{mul-le-mul-left}
 use lib.ListN.{length, length-append}
 use lib.Dec.{ltb}
 use borrow.Author.Tests.{lt-ltb, ltb-true, ltb-false}
-use Rattle.registers.specs.Lowest.{lowest}
 use Rattle.registers.proofs.First.{lowest-here, lowest-fails}
 use Rattle.runs.specs.Decimal.{fitsIn, places, decimal}
 use Rattle.runs.specs.Runs.{run}

@@ -1,15 +1,14 @@
 -- Texts stored one after the other.
 use Prim.Native.Nat.{ℕ, suc, _+_, _<_, _≤_}
-use mathlib.Core.Path.{_≡_, refl, sym, _∙_, ap}
-use mathlib.Core.List.{List, [], _∷_, _++_}
+use mathlib.Core.Path.{_≡_, _∙_}
+use mathlib.Core.List.{List}
 use native.Mathlib.Numerals.{add-one}
 use native.Mathlib.Omega.{arith}
-use lib.ListN.{length, getD, drop, set, length-append}
-use lib.Seq.{sets, drop-cons, drop-length, length-sets}
+use lib.ListN.{length, getD, drop, set}
+use lib.Seq.{sets, drop-cons, drop-length}
 use Rattle.registers.proofs.First.{lowest-most}
 use Rattle.runs.specs.Decimal.{fitsIn, places, decimal}
 use Rattle.buffers.specs.Put.{Put}
-use Rattle.runs.specs.Text.{labelled}
 use Rattle.runs.proofs.Lengths.{length-decimal}
 
 -- one letter more
@@ -26,7 +25,3 @@ put-decimal n h e s = record { stored = s; after = e ∙ rw length-decimal; insi
 
 pub few-digits : (n : ℕ) → places n ≤ 10
 few-digits n = lowest-most (fitsIn n) 9 1
-
-pub few-letters : (label : List ℕ) (n : ℕ) → length (labelled label n) ≤ length label + 10
-unfolding labelled
-few-letters label n = rw length-append (omega (arith, length-decimal n, few-digits n))

@@ -6,7 +6,7 @@ use mathlib.Core.Logic.{inl, inr}
 use native.Mathlib.Omega.{arith}
 use native.Mathlib.Nat.{sub-zero}
 use lib.ListN.{length, take, drop, length-drop, drop-of-length-le, take-append-drop}
-use lib.Seq.{sets-eq, take-at, take-all, length-sets, length-take-le, drop-drop}
+use lib.Seq.{sets-eq, take-at, take-all, length-take-le, drop-drop}
 use lib.IntN.{ℤ}
 use borrow.Author.Tests.{eq-eqb, ne-eqb}
 use Rattle.buffers.specs.Put.{Put}
@@ -97,9 +97,6 @@ module _ (file words : List ℕ) (r : Taken) (h : HeardFrom file words r) where
 -- the values that a call left in lent memory, taken from its front, as samples with room for them
 module _ (g : Registers) (words : List ℕ) (c : ℕ) (old new : List ℤ) (e : soundTold g ≡ given tt) (leaves : new ≡ playLeaves g words c old)
     (room : 8 * length words ≤ length old) where
-  pub values-kept : length new ≡ length old
-  values-kept = rw (leaves, playing g (length words) (length old) e room) (length-sets old 0 (playedOf g c words))
-
   pub values-taken : take (8 * length words) new ≡ playedOf g c words
   values-taken =
       let n : length (playedOf g c words) ≡ 8 * length words = length-played g c words in

@@ -7,18 +7,13 @@ use native.Mathlib.Omega.{arith}
 use borrow.Author.Tests.{lt-ltb}
 use Rattle.buffers.proofs.Product.{product-below}
 use Rattle.buffers.proofs.Tests.{unless, and-split, and-join}
-use Rattle.registers.specs.Table.{refusal}
 use Rattle.registers.specs.Setting.{displayOn, rasterWords, videoWords}
 use Rattle.registers.specs.declared.setting.Setting.{Setting}
-use Rattle.registers.specs.declared.check.Checked.{Checked}
 use Rattle.registers.proofs.Accepted.{Accepted}
 use Rattle.registers.proofs.Words.{depth-most, raster-most, video-rasters}
 use Rattle.frame.specs.Cell.{within}
 use Rattle.frame.proofs.CellCodes.{between, betweens}
 use Rattle.stretch.specs.Stretch.{isDisplayed, none, stretchOf}
-use Rattle.stretch.specs.declared.found.Stretch.{Stretch}
-use Rattle.stretch.specs.declared.found.Found.{Found}
-use Rattle.stretch.specs.declared.found.Found.the-variants as found
 
 module _ (s : Setting) (y : ℕ) where
   pub in-rasters : isDisplayed s y ≡ true → (s .vds .0 ≤ y) × (y < s .vde .0)
