@@ -6,7 +6,7 @@ use lib.ListN.{length}
 use lib.Dec.{ltb}
 use lib.Seq.{sets}
 use denote.Ref.{now}
-use Rattle.registers.specs.Table.{Told, given, refused, Row, row, judged, andThen, First}
+use Rattle.registers.specs.Table.{Told, Row, row, judged, andThen, First}
 use Rattle.registers.specs.Load.{loadTable, loadTold}
 use Rattle.registers.specs.Setting.{settingOf}
 use Rattle.registers.specs.Check.{settingTable, checkTold}

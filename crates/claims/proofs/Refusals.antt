@@ -10,7 +10,7 @@ use lib.Seq.{sets}
 use denote.Ref.{now}
 use Rattle.buffers.specs.Pick.{pick}
 use Rattle.buffers.specs.Painted.{painted}
-use Rattle.registers.specs.Table.{given, refused, Row, row, judged, told}
+use Rattle.registers.specs.Table.{refused, Row, row, judged, told}
 use Rattle.registers.specs.Record.{storedOf}
 use Rattle.registers.specs.Load.{applied, loadTable, loadTold}
 use Rattle.registers.specs.Setting.{settingOf}

@@ -1,5 +1,5 @@
 -- Colours have 13 bits and greys 8.
-use Prim.Native.Nat.{ℕ, _<_, _≤_, _%_, _^_}
+use Prim.Native.Nat.{ℕ, _<_, _≤_}
 use mathlib.Core.Bool.{Bool, true, false}
 use native.Mathlib.Omega.{arith}
 use lib.Dec.{eqb}

@@ -1,6 +1,6 @@
 -- The paper's small plate, raster 3: border cells 36608, display cells 40960 to 40967; the lent cell beyond the raster's is untouched.
 use mathlib.Core.Path.{_≡_, refl}
-use mathlib.Core.List.{List, [], _∷_, _++_}
+use mathlib.Core.List.{[], _∷_, _++_}
 use lib.ListN.{replicate}
 use Rattle.buffers.specs.Painted.{eachFrom, painted}
 use Rattle.registers.specs.Record.{storedOf}

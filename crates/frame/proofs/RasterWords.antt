@@ -1,6 +1,6 @@
 -- The words of one displayed raster: a stretch of the caller's list, whose pixels are the frame's.
 use Prim.Native.Nat.{ℕ, _+_, _*_, _-_, _/_, _<_, _≤_}
-use mathlib.Core.Path.{_≡_, sym, ap, _∙_}
+use mathlib.Core.Path.{_≡_, ap, _∙_}
 use mathlib.Core.List.{List}
 use mathlib.Core.Logic.{inl, inr}
 use native.Mathlib.Nat.{mul-assoc, mul-le-mul-right, eq-of-mul-eq-mul-right, mul-le-mul, div-lt-iff-lt-mul}
@@ -9,11 +9,11 @@ use borrow.Author.Tests.{lt-ltb}
 use lib.ListN.{length, take, drop, length-take, length-drop}
 use Rattle.buffers.specs.Painted.{painted}
 use Rattle.buffers.proofs.Paints.{paint-as, paints-of, paints-painted}
-use Rattle.registers.specs.Setting.{videoWords}
+use Rattle.registers.specs.Setting.{rasterWords, videoWords}
 use Rattle.registers.specs.declared.setting.Setting.{Setting}
-use Rattle.frame.specs.Pixel.{rasterWords, firstWord}
+use Rattle.frame.specs.Pixel.{firstWord}
 use Rattle.registers.proofs.Accepted.{Depth, Accepted}
-use Rattle.registers.proofs.Words.{depth-least, depth-most, raster-bits, raster-most, video-rasters}
+use Rattle.registers.proofs.Words.{depth-least, depth-most, raster-bits, video-rasters}
 use Rattle.frame.specs.Lent.{Raster}
 use Rattle.frame.proofs.PixelPlaces.{per-least, past-bytes, past-pixels, byte-part}
 use Rattle.frame.specs.Ink.{from, wordsInk, displayInk}
@@ -42,33 +42,21 @@ row-same table ws per m r j some h =
     rw (past-bytes n per (r * m * 4) j e some, past-pixels n per (r * m * 4) j e, byte-part ws (r * m) m (j / per) b)
 
 module _ (s : Setting) (r : Accepted s) where
-  -- Words to a raster, and pixels to its words.
-  pub whole-words : (s .de .0 - s .ds .0) * s .depth ≡ rasterWords s * 32
-  unfolding rasterWords
-  whole-words = sym (raster-bits s r)
-
+  -- The pixels of a raster's words.
   pub whole-pixels : rasterWords s * (32 / s .depth) ≡ s .de .0 - s .ds .0
   whole-pixels =
       eq-of-mul-eq-mul-right (s .depth) (depth-least (r .depth)) _ _
-      (mul-assoc (rasterWords s) (32 / s .depth) (s .depth) ∙ ap (λ (k : ℕ). rasterWords s * k) (fills-word (r .depth)) ∙ sym whole-words)
+      (mul-assoc (rasterWords s) (32 / s .depth) (s .depth) ∙ ap (λ (k : ℕ). rasterWords s * k) (fills-word (r .depth)) ∙ raster-bits s r)
 
   pub bits-most : (s .de .0 - s .ds .0) * s .depth ≤ 2048 * 8
   bits-most = mul-le-mul {n₂ = 2048} {m₂ = 8} (omega (arith, r .de-be, r .be-n, r .n-most)) (depth-most (r .depth))
-
-  pub words-most : rasterWords s ≤ 512
-  unfolding rasterWords
-  words-most = raster-most s r
-
-  pub frame-words : s .vds .0 < s .vde .0 → videoWords s ≡ (s .vde .0 - s .vds .0) * rasterWords s
-  unfolding rasterWords
-  frame-words h = video-rasters s r (lt-ltb (s .vds .0) (s .vde .0) h)
 
   -- The words of a displayed raster lie in the list.
   pub raster-room : (y : ℕ) → s .vds .0 ≤ y → y < s .vde .0 → firstWord s y + rasterWords s ≤ videoWords s
   unfolding firstWord
   raster-room y p q =
       let h : y - s .vds .0 + 1 ≤ s .vde .0 - s .vds .0 = omega arith in
-      omega (arith, mul-le-mul-right (rasterWords s) h, frame-words (omega arith))
+      omega (arith, mul-le-mul-right (rasterWords s) h, video-rasters s r (lt-ltb (s .vds .0) (s .vde .0) (omega arith)))
 
   raster-same : (table video : List ℕ) (y at k : ℕ) → at + s .ds .0 ≤ k → k < at + s .de .0
       → from (at + s .ds .0) (wordsInk table (take (rasterWords s) (drop (firstWord s y) video)) (8 / s .depth)) k ≡ from at (displayInk s table video y) k

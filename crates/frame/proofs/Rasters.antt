@@ -7,12 +7,12 @@ use native.Mathlib.Omega.{arith}
 use lib.ListN.{length, getD}
 use Rattle.buffers.specs.Pick.{pick}
 use Rattle.buffers.specs.Painted.{painted}
-use Rattle.buffers.proofs.Paints.{Paints, paint-as, paint-next, paints-of, paints-painted, length-painted}
+use Rattle.buffers.proofs.Paints.{Paints, paint-as, paint-next, paints-of, paints-painted}
 use Rattle.registers.specs.declared.setting.Setting.{Setting}
 use Rattle.frame.specs.Pixel.{cursorPair}
 use Rattle.frame.specs.Cell.{covered}
 use Rattle.registers.proofs.Accepted.{Accepted}
-use Rattle.frame.specs.Lent.{Lent, Raster, Pointed}
+use Rattle.frame.specs.Lent.{Lent}
 use Rattle.frame.specs.Ink.{from, plainInk, ink, coverInk, frameInk}
 
 module _ (s : Setting) (pens table video cursor o p q : List ℕ) (at y : ℕ) (room : at + s .n .0 ≤ length o) where
@@ -34,12 +34,6 @@ module _ (s : Setting) (pens table video cursor o p q : List ℕ) (at y : ℕ) (
 
       over : Paints 0 p q at (at + s .n .0) (coverInk s pens cursor y at p)
       over = paints-of (rw (under .len) room) f
-
-pub lent-pointed : {s : Setting} {at : ℕ} {video cursor o p : List ℕ} (f : ℕ → ℕ) → Lent s (at + s .n .0) video cursor o → p ≡ painted o at (at + s .n .0) f → Pointed s at cursor p
-lent-pointed {s} {at} {o = o} f r e = record { accepted = r .accepted; room = rw (ap length e ∙ length-painted o at (at + s .n .0) f) (r .room); words = r .cursor-words }
-
-pub lent-raster : {s : Setting} {at : ℕ} {video cursor o : List ℕ} → Lent s (at + s .n .0) video cursor o → Raster s at video o
-lent-raster r = record { accepted = r .accepted; room = r .room; words = r .video-words }
 
 module _ (s : Setting) (r : Accepted s) (y : ℕ) where
   pub row-room : y < s .v .0 → y * s .n .0 + s .n .0 ≤ s .n .0 * s .v .0

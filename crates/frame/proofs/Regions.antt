@@ -1,5 +1,5 @@
 -- The rule with no cursor, stretch by stretch of a raster of a right setting.
-use Prim.Native.Nat.{ℕ, _+_, _-_, _<_, _≤_}
+use Prim.Native.Nat.{ℕ, _+_, _<_, _≤_}
 use mathlib.Core.Bool.{true, _&&_}
 use mathlib.Core.Path.{_≡_}
 use mathlib.Core.List.{List}

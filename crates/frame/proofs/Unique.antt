@@ -1,5 +1,5 @@
 -- For each public call, any two answers that its contract permits are the same, and any two states of the lent cells.
-use mathlib.Core.Path.{_≡_, sym, _∙_}
+use mathlib.Core.Path.{sym, _∙_}
 use denote.Ref.{now}
 use Rattle.buffers.proofs.Coincide.{OneAnswer, OneState}
 use Rattle.registers.proofs.Told.{same-answer}

@@ -1,6 +1,6 @@
 -- The cell at position x of raster y: its code and its colour.
 use Prim.Native.Nat.{ℕ, _+_, _*_, _-_}
-use mathlib.Core.Bool.{Bool, _&&_, _||_, not}
+use mathlib.Core.Bool.{Bool, _&&_, not}
 use mathlib.Core.List.{List}
 use lib.Dec.{ltb, leb, eqb}
 use Rattle.buffers.specs.Pick.{pick}

@@ -2,6 +2,7 @@
 use Prim.Native.Nat.{ℕ, _+_, _*_, _-_, _/_, _%_, _^_}
 use mathlib.Core.List.{List}
 use lib.ListN.{getD}
+use Rattle.registers.specs.Setting.{rasterWords}
 use Rattle.registers.specs.declared.setting.Setting.{Setting}
 
 -- Logical pixel i of the words ws at depth d.
@@ -15,10 +16,7 @@ position s x y = (y - s .vds .0) * (s .de .0 - s .ds .0) + (x - s .ds .0)
 abbrev pub logical : Setting → List ℕ → ℕ → ℕ → ℕ
 logical s video x y = pixel video (s .depth) (position s x y)
 
--- The words of a displayed raster: how many, and the first.
-unfoldable pub rasterWords : Setting → ℕ
-rasterWords s = (s .de .0 - s .ds .0) * s .depth / 32
-
+-- The first word of a displayed raster.
 unfoldable pub firstWord : Setting → ℕ → ℕ
 firstWord s y = (y - s .vds .0) * rasterWords s
 

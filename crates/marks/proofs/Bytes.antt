@@ -1,5 +1,5 @@
 -- Bright pixels counted by whole bytes: a word's four bytes hold its pixels in order. Once for every depth d.
-use Prim.Native.Nat.{ℕ, _+_, _*_, _-_, _/_, _%_, _^_, _<_, _≤_}
+use Prim.Native.Nat.{ℕ, _+_, _*_, _/_, _%_, _^_, _<_, _≤_}
 use mathlib.Core.List.{List}
 use mathlib.Core.Path.{_≡_, sym, _∙_, ap}
 use native.Mathlib.Nat.{add-mul, mul-assoc, mod-lt, div-one, mul-le-mul-right}

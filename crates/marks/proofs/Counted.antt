@@ -3,16 +3,16 @@ use Prim.Native.Nat.{ℕ, _+_, _*_, _-_, _/_}
 use mathlib.Core.Bool.{Bool, true, false}
 use mathlib.Core.List.{List}
 use mathlib.Core.Path.{_≡_, refl, sym, _∙_, ap}
-use native.Mathlib.Nat.{mul-assoc, mul-div-cancel}
+use native.Mathlib.Nat.{mul-assoc}
 use native.Mathlib.Omega.{arith}
 use lib.ListN.{length}
 use Rattle.buffers.specs.Pick.{pick}
-use Rattle.registers.specs.Setting.{displayOn, rasterWords, videoWords}
+use Rattle.registers.specs.Setting.{displayOn, videoWords}
 use Rattle.registers.specs.declared.record.Registers.{Registers}
 use Rattle.registers.specs.declared.setting.Setting.{Setting}
 use Rattle.registers.proofs.Accepted.{Accepted, video-off}
-use Rattle.registers.proofs.Words.{depth-least, raster-bits, video-rasters}
-use Rattle.frame.proofs.PixelPlaces.{fills-byte}
+use Rattle.registers.proofs.Words.{video-rasters}
+use Rattle.frame.proofs.RasterWords.{four-bytes, whole-pixels}
 use Rattle.marks.specs.Count.{total}
 use Rattle.marks.specs.Marks.{marksOf}
 use Rattle.marks.specs.Bright.{Tabled, bright, byteBright, pixelBright, wordAt, coveredBright, cursorRaster, coveredAll}
@@ -21,18 +21,10 @@ use Rattle.marks.proofs.Points.{markIn, displayBright, point}
 use Rattle.marks.proofs.Rows.{rowsTotal, marks-rows, rows-add, display-total, display-off, covered-total, covered-off}
 
 module _ (s : Setting) (a : Accepted s) where
-  -- A displayed raster's words hold its pixels, 32 / d each.
-  raster-pixels : s .de .0 - s .ds .0 ≡ rasterWords s * (4 * (8 / s .depth))
-  raster-pixels =
-      let d = s .depth in
-      let n = 4 * (8 / d) in
-      let all : n * d ≡ 32 = omega (arith, mul-assoc 4 (8 / d) d, fills-byte (a .depth)) in
-      let bits : rasterWords s * n * d ≡ (s .de .0 - s .ds .0) * d = rw (mul-assoc (rasterWords s) n d, all, raster-bits s a) in
-      sym (mul-div-cancel (s .de .0 - s .ds .0) (depth-least (a .depth))) ∙ ap (λ m. m / d) (sym bits) ∙ mul-div-cancel (rasterWords s * n) (depth-least (a .depth))
-
+  -- The words hold the pixels of all displayed rasters.
   display-pixels : (m : ℕ) → displayOn s ≡ true → m ≡ videoWords s
       → (s .vde .0 - s .vds .0) * (s .de .0 - s .ds .0) ≡ m * (4 * (8 / s .depth))
-  display-pixels m on e = rw (e, video-rasters s a on, mul-assoc, ← raster-pixels)
+  display-pixels m on e = rw (e, video-rasters s a on, mul-assoc, ← four-bytes (a .depth), whole-pixels s a)
 
   module _ (g : Registers) (video cursor : List ℕ) (threshold : ℕ) (pixels : List ℕ) (t : Tabled pixels 256 (bright g (s .depth) threshold)) where
     -- Marks, and bright pixels that the cursor covers.

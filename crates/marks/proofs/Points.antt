@@ -1,5 +1,5 @@
 -- At each position: it is a mark, or a bright pixel that the cursor covers, exactly where a bright pixel is displayed.
-use Prim.Native.Nat.{ℕ, _+_, _-_}
+use Prim.Native.Nat.{ℕ, _+_}
 use mathlib.Core.Bool.{Bool, true, false, not, and-false}
 use mathlib.Core.List.{List}
 use mathlib.Core.Path.{_≡_, refl, _∙_, ap}

@@ -18,7 +18,7 @@ use Rattle.frame.specs.Frame.{frameCell}
 use Rattle.frame.proofs.CellCodes.{Displayed, Covered, displayed, in-display, is-covered, plain-five}
 use Rattle.marks.specs.Count.{total, bit}
 use Rattle.marks.specs.Marks.{markAt, marksOf}
-use Rattle.marks.specs.Bright.{bright, pixelBright, coveredBright, cursorBright, rasterBright, cursorRaster}
+use Rattle.marks.specs.Bright.{pixelBright, coveredBright, cursorBright, rasterBright, cursorRaster}
 use Rattle.marks.proofs.Totals.{total-as, total-none, total-add, total-rows, total-window}
 use Rattle.marks.proofs.Points.{markIn, displayBright}
 

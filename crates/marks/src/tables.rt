@@ -4,7 +4,7 @@ use colours::colour;
 use colours::grey;
 use registers::record::Registers;
 ghost use mathlib.Core.Path.{_≡_};
-ghost use Prim.Native.Nat.{_≤_, _<_};
+ghost use Prim.Native.Nat.{_<_};
 ghost use Rattle.registers.proofs.Accepted.{Depth};
 ghost use Rattle.marks.specs.Bright.{Tabled, AtMost, bright, byteBright};
 

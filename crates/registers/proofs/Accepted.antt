@@ -1,8 +1,8 @@
 -- What the crates above know of an accepted setting.
-use Prim.Native.Nat.{ℕ, zero, suc, _+_, _*_, _-_, _/_, _%_, _<_, _≤_}
-use mathlib.Core.Path.{_≡_, refl, sym, _∙_, ap}
-use mathlib.Core.Bool.{Bool, true, false}
-use mathlib.Core.List.{List, [], _∷_}
+use Prim.Native.Nat.{ℕ, zero, suc, _*_, _-_, _/_, _%_, _<_, _≤_}
+use mathlib.Core.Path.{_≡_, refl}
+use mathlib.Core.Bool.{true, false}
+use mathlib.Core.List.{[], _∷_}
 use mathlib.Core.Logic.{_⊎_, inl, inr}
 use native.Mathlib.Omega.{arith}
 use lib.ListN.{getD}
@@ -11,7 +11,7 @@ use Rattle.registers.specs.Table.{given}
 use Rattle.registers.specs.Geometry.{depthChoice}
 use Rattle.registers.specs.Setting.{settingOf, displayOn, borderOn, videoWords, cursorWords}
 use Rattle.registers.specs.Check.{checkTold}
-use Rattle.registers.specs.Rules.{Horizontal, Displayed, Bordered, Vertical, EveryRule}
+use Rattle.registers.specs.Rules.{Displayed, Bordered, Vertical, EveryRule}
 use Rattle.registers.specs.declared.record.Registers.{Registers}
 use Rattle.registers.specs.declared.setting.Setting.{Setting}
 use Rattle.registers.proofs.Exactly.{every-rule, accepted-setting}

@@ -1,5 +1,5 @@
 -- A record is accepted exactly when every rule holds, and the refusal given is that of the first rule broken.
-use Prim.Native.Nat.{ℕ, _*_, _-_, _/_, _%_, _<_, _≤_}
+use Prim.Native.Nat.{ℕ, _<_, _≤_}
 use mathlib.Core.Path.{_≡_, refl, sym, _∙_, ap}
 use mathlib.Core.Bool.{Bool, true, false, _&&_, _||_, not}
 use mathlib.Core.Logic.{_⊎_, inl, inr, _↔_}
@@ -9,16 +9,16 @@ use lib.ListN.{getD}
 use borrow.Author.Tests.{ltb-true, ltb-false, leb-true, eqb-true, not-true, not-false, lt-ltb, le-ltb, le-leb, eq-eqb}
 use Rattle.buffers.proofs.Tests.{and-split, and-join, or-split, or-left, or-right}
 use Rattle.registers.specs.Table.{given, refused, First}
-use Rattle.registers.specs.Geometry.{control, subPosition}
+use Rattle.registers.specs.Geometry.{subPosition}
 use Rattle.registers.specs.Setting.{settingOf, displayOn, borderOn}
 use Rattle.registers.specs.Needed.{needed, missing}
-use Rattle.registers.specs.Lowest.{lowest, faultAt}
-use Rattle.registers.specs.Check.{testMode, interlaced, horizontalRule, displayRule, borderRule, verticalRule, widthRule, cursorRule, unwritten, settingTable, checkTold}
+use Rattle.registers.specs.Lowest.{faultAt}
+use Rattle.registers.specs.Check.{horizontalRule, displayRule, borderRule, verticalRule, cursorRule, unwritten, settingTable, checkTold}
 use Rattle.registers.specs.Rules.{Horizontal, Displayed, Bordered, Vertical, EveryRule}
 use Rattle.registers.specs.declared.record.Registers.{Registers}
 use Rattle.registers.specs.declared.setting.Setting.{Setting}
 use Rattle.registers.specs.declared.lowest.Fault.the-variants.{Unwritten}
-use Rattle.registers.proofs.First.{lowest-most, lowest-passes, lowest-fails}
+use Rattle.registers.proofs.First.{lowest-passes, lowest-fails}
 use Rattle.registers.proofs.Tables.{passes-given, given-passes, refused-first, first-refused}
 
 not-of : {t : Bool} → t ≡ true → not t ≡ false

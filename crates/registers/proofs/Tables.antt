@@ -1,12 +1,12 @@
 -- How a table answers: the first row whose test holds, and what was asked for exactly where none does.
 use Prim.Native.Nat.{ℕ}
-use mathlib.Core.Path.{_≡_, refl, sym, _∙_}
+use mathlib.Core.Path.{_≡_, refl, sym}
 use mathlib.Core.Bool.{Bool, true, false}
 use mathlib.Core.List.{List, [], _∷_}
-use mathlib.Core.Logic.{_⊎_, inl, inr}
+use mathlib.Core.Logic.{inl, inr}
 use native.Mathlib.Omega.{arith}
 use Rattle.buffers.specs.Pick.{pick}
-use Rattle.registers.specs.Table.{Told, given, refused, Row, judged, andThen, Passes, First}
+use Rattle.registers.specs.Table.{given, refused, Row, judged, andThen, Passes, First}
 
 -- what was asked for is never a refusal
 pub never : {A : Type 0} {P : Type 0} {a : A} {n d : ℕ} → given a ≡ refused n d → P

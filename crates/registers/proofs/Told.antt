@@ -3,7 +3,7 @@ use Prim.Native.Nat.{ℕ}
 use mathlib.Core.Path.{_≡_, refl, sym, _∙_, ap}
 use mathlib.Core.List.{[], _∷_}
 use lib.ListN.{getD}
-use Rattle.registers.specs.Table.{Told, given, refused, numberOf, detailOf, refusal, told}
+use Rattle.registers.specs.Table.{numberOf, detailOf, refusal, told}
 use Rattle.registers.specs.Check.{checkSays}
 use Rattle.registers.specs.declared.refusal.Refusal.{Refusal}
 use Rattle.registers.specs.declared.refusal.Refusal.the-variants.{TooManyWords, Reserved, Unwritten, TestMode, Interlace, Horizontal, Vertical, Width, Cursor, Sound, WordCount, Raster, Short, PlateFile, TooLarge}

@@ -17,9 +17,11 @@ depth-most h = ⊎-elim (λ e. omega arith) (⊎-elim (λ e. omega arith) (⊎-e
 
 module _ (s : Setting) (a : Accepted s) where
   pub raster-bits : rasterWords s * 32 ≡ (s .de .0 - s .ds .0) * s .depth
+  unfolding rasterWords
   raster-bits = omega (arith, a .whole)
 
   pub raster-most : rasterWords s ≤ 512
+  unfolding rasterWords
   raster-most =
       let wide : s .de .0 - s .ds .0 ≤ 2048 = omega (arith, a .de-be, a .be-n, a .n-most) in
       let most : (s .de .0 - s .ds .0) * s .depth ≤ 2048 * 8 = mul-le-mul wide (depth-most (a .depth)) in

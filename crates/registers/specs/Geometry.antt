@@ -1,12 +1,11 @@
 -- Geometry: what the horizontal and vertical registers say, in pixels and rasters.
 use Prim.Native.Nat.{ℕ, _+_, _*_, _/_, _%_, _^_}
 use mathlib.Core.Bool.{Bool, _&&_}
-use mathlib.Core.List.{List, [], _∷_}
+use mathlib.Core.List.{[], _∷_}
 use lib.ListN.{getD}
-use lib.Dec.{ltb, leb, eqb}
+use lib.Dec.{ltb}
 use Rattle.registers.specs.Record.{valueAt, writtenAt}
 use Rattle.registers.specs.declared.record.Registers.{Registers}
-use Rattle.registers.specs.declared.units.Pairs.{Pairs}
 use Rattle.registers.specs.declared.units.Pixels.{Pixels}
 use Rattle.registers.specs.declared.units.Rasters.{Rasters}
 

@@ -1,11 +1,11 @@
 -- Register words: address and data of a word, the record, and one word stored in it.
 use Prim.Native.Nat.{ℕ, _/_, _%_, _^_}
 use mathlib.Core.Bool.{Bool, true, false, _&&_, _||_}
-use mathlib.Core.List.{List, [], _∷_}
+use mathlib.Core.List.{[], _∷_}
 use lib.ListN.{getD, set, replicate}
-use lib.Dec.{ltb, leb, eqb}
+use lib.Dec.{ltb, leb}
 use Rattle.buffers.specs.Pick.{pick}
-use Rattle.registers.specs.Table.{Told, Row, row, judged}
+use Rattle.registers.specs.Table.{Told, row, judged}
 use Rattle.registers.specs.declared.record.Registers.{Registers}
 
 -- The address is bits 31 to 26, a byte with two zero bits below; its slot is the address without those.

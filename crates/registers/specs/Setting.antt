@@ -1,7 +1,7 @@
 -- The setting that a record describes, in the paper's letters, and the words that its frame needs.
-use Prim.Native.Nat.{ℕ, _+_, _*_, _-_, _/_, _%_}
-use mathlib.Core.Bool.{Bool, true, false, _&&_, _||_, not}
-use lib.Dec.{ltb, leb, eqb}
+use Prim.Native.Nat.{ℕ, _*_, _-_, _/_}
+use mathlib.Core.Bool.{Bool}
+use lib.Dec.{ltb}
 use Rattle.buffers.specs.Pick.{pick}
 use Rattle.registers.specs.Geometry.{pixelsAt, rastersAt, depthOf, displayOffset, cursorStart, cursorOn}
 use Rattle.registers.specs.declared.record.Registers.{Registers}
@@ -37,7 +37,7 @@ abbrev pub borderOn : Setting → Bool
 borderOn s = ltb (s .vbs .0) (s .vbe .0)
 
 -- A displayed raster has (DE-DS)·d/32 words.
-abbrev pub rasterWords : Setting → ℕ
+unfoldable pub rasterWords : Setting → ℕ
 rasterWords s = (s .de .0 - s .ds .0) * s .depth / 32
 
 -- A frame needs (DE-DS)·(VDE-VDS)·d/32 video words, 0 if display is off,

@@ -1,6 +1,5 @@
 // Letters and labelled numbers in lent memory: the head and the refusal line.
 use crate::number::put_number;
-ghost use mathlib.Core.Path.{_≡_};
 ghost use Prim.Native.Nat.{_+_, _≤_};
 ghost use lib.ListN.{length};
 ghost use Rattle.buffers.specs.Put.{Put};

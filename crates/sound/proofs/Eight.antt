@@ -1,7 +1,7 @@
 -- A table of the eight channels holds what it was made of.
 use mathlib.Core.Path.{_≡_, refl}
 use mathlib.Core.List.{List, [], _∷_}
-use Prim.Native.Nat.{ℕ, zero, suc, _-_, _<_, _≤_}
+use Prim.Native.Nat.{ℕ, zero, suc, _<_, _≤_}
 use native.Mathlib.Omega.{arith}
 use Rattle.sound.specs.Sixths.{eight}
 use Rattle.sound.specs.Values.{channelOf, counterAfter, valuesOf, inTable, Sixths}

@@ -1,7 +1,8 @@
 use native.Mathlib.Omega.{arith}
 use Prim.Native.Nat.{_-_}
 use Rattle.frame.specs.Pixel.{firstWord}
-use Rattle.frame.proofs.RasterWords.{words-most, product-fits}
+use Rattle.registers.proofs.Words.{raster-most}
+use Rattle.frame.proofs.RasterWords.{product-fits}
 use borrow.Author.Needs.{needs}
 use Rattle.frame.proofs.display.first_word.Statement.{statement}
 use Rattle.frame.proofs.display.first_word.Tie as tie
@@ -16,7 +17,7 @@ raster-words-requires : tie.Need-raster-words-requires
 raster-words-requires c κs = search needs
 
 mul-result : tie.Need-mul-result
-mul-result c = omega (arith, product-fits (c .before .before .before .args .y .0 - c .before .before .before .args .s .vds .0) (c .raster-words .result) (omega arith) (rw (c .raster-words .ensures) (words-most _ (c .before .before .before .pre .0))))
+mul-result c = omega (arith, product-fits (c .before .before .before .args .y .0 - c .before .before .before .args .s .vds .0) (c .raster-words .result) (omega arith) (rw (c .raster-words .ensures) (raster-most _ (c .before .before .before .pre .0))))
 
 returns : tie.Need-returns
 unfolding firstWord

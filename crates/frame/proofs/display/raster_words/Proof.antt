@@ -1,5 +1,5 @@
 use native.Mathlib.Omega.{arith}
-use Rattle.frame.specs.Pixel.{rasterWords}
+use Rattle.registers.specs.Setting.{rasterWords}
 use Rattle.frame.proofs.RasterWords.{bits-most}
 use Rattle.registers.proofs.Words.{depth-most}
 use borrow.Author.Needs.{needs}

@@ -2,6 +2,7 @@ use Rattle.stretch.proofs.Stretches.{stretch-none, stretch-at, width-sm
 use Rattle.registers.proofs.Words.{depth-most}
 use mathlib.Core.Path.{sym}
 use native.Mathlib.Omega.{arith}
+use Rattle.registers.specs.Setting.{rasterWords}
 use borrow.Author.Needs.{needs}
 use Rattle.stretch.proofs.found.stretch_of.Statement.{statement}
 use Rattle.stretch.proofs.found.stretch_of.Tie as tie
@@ -28,9 +29,11 @@ cast-t8 : tie.Need-cast-t8
 cast-t8 c = search needs
 
 mul-t7 : tie.Need-mul-t7
+unfolding rasterWords
 mul-t7 c = let s = c .before .before .before .before .before .before .before in omega (arith, start-small (s .args .s) _ (s .pre) (c .before .before .before .if2 .left))
 
 returns-3 : tie.Need-returns-3
+unfolding rasterWords
 returns-3 c = sym (stretch-at _ _ (c .before .before .before .before .before .if1 .left) (c .before .before .before .if2 .left))
 
 pub stretch-of-spec : {M : Type 1} → statement M
