@@ -15,6 +15,10 @@ pub or-split : (a b : Bool) → a || b ≡ true → (a ≡ true) ⊎ (b ≡ true
 or-split true b e = inl refl
 or-split false b e = inr e
 
+pub or-neither : (a b : Bool) → a || b ≡ false → (a ≡ false) × (b ≡ false)
+or-neither true b e = let never : true ≡ false = e in (cc, cc)
+or-neither false b e = (refl, e)
+
 pub or-left : {a : Bool} (b : Bool) → a ≡ true → a || b ≡ true
 or-left b p = rw p
 
@@ -24,8 +28,3 @@ or-right false q = q
 
 pub no : false ≡ true → ⊥
 no e = subst (λ b. T (not b)) e tt
-
--- a test that cannot hold is false
-pub unless : (b : Bool) → (b ≡ true → ⊥) → b ≡ false
-unless true h = absurd (h refl)
-unless false h = refl

@@ -3,6 +3,7 @@ pub mod CellCodes
 pub mod Words
 pub mod Regions
 pub mod RasterWords
+pub mod Edges
 pub mod Stretches
 pub mod Pointer
 pub mod Rasters

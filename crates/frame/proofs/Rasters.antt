@@ -1,8 +1,8 @@
--- A raster is the cursor over plain cells, and a frame is its rasters one after another.
+-- A raster is the cursor over plain cells; rasters one after another.
 use Prim.Native.Nat.{ℕ, _+_, _*_, _-_, _/_, _%_, _<_, _≤_}
 use mathlib.Core.Path.{_≡_, sym, ap, _∙_}
 use mathlib.Core.List.{List}
-use native.Mathlib.Nat.{mul-le-mul-right, mul-add-div-right, mul-add-mod-self-right, div-eq-of-lt, mod-eq-of-lt, add-zero}
+use native.Mathlib.Nat.{mul-le-mul-right, mul-add-div-right, mul-add-mod-self-right, div-eq-of-lt, mod-eq-of-lt, add-zero, zero-mul}
 use native.Mathlib.Omega.{arith}
 use lib.ListN.{length, getD}
 use Rattle.buffers.specs.Pick.{pick}
@@ -12,12 +12,13 @@ use Rattle.registers.specs.declared.setting.Setting.{Setting}
 use Rattle.frame.specs.Pixel.{cursorPair}
 use Rattle.frame.specs.Cell.{covered}
 use Rattle.registers.proofs.Accepted.{Accepted}
-use Rattle.frame.specs.Lent.{Lent}
-use Rattle.frame.specs.Ink.{from, plainInk, ink, coverInk, frameInk}
+use Rattle.frame.specs.Lent.{Lent, Edged}
+use Rattle.frame.specs.Ink.{from, plainInk, linedInk, ink, coverInk, rowsInk}
+use Rattle.frame.proofs.Edges.{lined-plain}
 
-module _ (s : Setting) (pens table video cursor o p q : List ℕ) (at y : ℕ) (room : at + s .n .0 ≤ length o) where
+module _ (s : Setting) (r : Accepted s) (pens line table video cursor o p q : List ℕ) (at y : ℕ) (room : at + s .n .0 ≤ length o) (edged : Edged s pens y line) where
   -- Cover over plain cells is the rule.
-  pub row-law : p ≡ painted o at (at + s .n .0) (from at (plainInk s pens table video y))
+  pub row-law : p ≡ painted o at (at + s .n .0) (from at (linedInk s line table video y))
       → q ≡ painted p at (at + s .n .0) (coverInk s pens cursor y at p)
       → q ≡ painted o at (at + s .n .0) (from at (ink s pens table video cursor y))
   unfolding from coverInk ink
@@ -30,33 +31,47 @@ module _ (s : Setting) (pens table video cursor o p q : List ℕ) (at y : ℕ) (
       })
     where
       under : Paints 0 o p at (at + s .n .0) (from at (plainInk s pens table video y))
-      under = paints-of room e
+      under =
+          paint-as (from at (plainInk s pens table video y)) (λ k a b. lined-plain s pens (k - at) y r table video line (omega arith) edged)
+          (paints-of room e)
 
       over : Paints 0 p q at (at + s .n .0) (coverInk s pens cursor y at p)
       over = paints-of (rw (under .len) room) f
 
-module _ (s : Setting) (r : Accepted s) (y : ℕ) where
-  pub row-room : y < s .v .0 → y * s .n .0 + s .n .0 ≤ s .n .0 * s .v .0
-  row-room h = omega (arith, mul-le-mul-right (s .n .0) h)
+-- Where a raster starts among those from the first on.
+pub no-place : (first n : ℕ) → 0 ≡ (first - first) * n
+no-place first n = let q : first - first ≡ 0 = omega arith in rw q (sym (zero-mul n))
 
-  module _ (pens table video cursor : List ℕ) (at : ℕ) (start : at ≡ y * s .n .0) where
-    row-same : (k : ℕ) → at ≤ k → k < at + s .n .0 → from at (ink s pens table video cursor y) k ≡ frameInk s pens table video cursor k
-    unfolding from frameInk
-    row-same k a b =
-        let e : y * s .n .0 + (k - at) ≡ k = omega arith in
-        let x : k - at < s .n .0 = omega arith in
-        let z : 0 < s .n .0 = omega arith in
-        let d : k / s .n .0 ≡ y = ap (λ (i : ℕ). i / s .n .0) (sym e) ∙ mul-add-div-right z y (k - at) ∙ ap (λ (i : ℕ). y + i) (div-eq-of-lt x) ∙ add-zero y in
-        let m : k % s .n .0 ≡ k - at = ap (λ (i : ℕ). i % s .n .0) (sym e) ∙ mul-add-mod-self-right y (s .n .0) (k - at) ∙ mod-eq-of-lt x in
-        rw (d, m)
+pub next-place : (first y at n : ℕ) → first ≤ y → at ≡ (y - first) * n → at + n ≡ (y + 1 - first) * n
+next-place first y at n h e = let q : y + 1 - first ≡ (y - first) + 1 = omega arith in rw q (omega (arith, e))
 
-    -- One raster more is painted.
-    pub row-turn : (o p q : List ℕ) → at + s .n .0 ≤ length o → Paints 0 o p 0 at (frameInk s pens table video cursor)
-        → q ≡ painted p at (at + s .n .0) (from at (ink s pens table video cursor y)) → Paints 0 o q 0 (at + s .n .0) (frameInk s pens table video cursor)
-    row-turn o p q room so-far e =
-        paint-next {d = 0} (omega arith) (omega arith) so-far (paint-as (frameInk s pens table video cursor) row-same (paints-of (rw (so-far .len) room) e))
+room-for : (m e n : ℕ) → m < e → m * n + n ≤ n * e
+room-for m e n h = omega (arith, mul-le-mul-right n h)
 
-pub lent-row : {s : Setting} {video cursor o p : List ℕ} (y at : ℕ) → Lent s (s .n .0 * s .v .0) video cursor o → length p ≡ length o → y < s .v .0 → at ≡ y * s .n .0
-    → Lent s (at + s .n .0) video cursor p
-lent-row {s} y at r e h start =
-    record { accepted = r .accepted; room = omega (arith, r .room, row-room s (r .accepted) y h); video-words = r .video-words; cursor-words = r .cursor-words }
+pub row-room : (s : Setting) (first end y : ℕ) → first ≤ y → y < end → (y - first) * s .n .0 + s .n .0 ≤ s .n .0 * (end - first)
+row-room s first end y a b = room-for (y - first) (end - first) (s .n .0) (omega arith)
+
+module _ (s : Setting) (pens table video cursor : List ℕ) (first y : ℕ) (after : first ≤ y) (at : ℕ) (start : at ≡ (y - first) * s .n .0) where
+  row-same : (k : ℕ) → at ≤ k → k < at + s .n .0 → from at (ink s pens table video cursor y) k ≡ rowsInk s pens table video cursor first k
+  unfolding from rowsInk
+  row-same k a b =
+      let i : ℕ = y - first in
+      let e : i * s .n .0 + (k - at) ≡ k = omega arith in
+      let x : k - at < s .n .0 = omega arith in
+      let z : 0 < s .n .0 = omega arith in
+      let d : k / s .n .0 ≡ i = ap (λ (j : ℕ). j / s .n .0) (sym e) ∙ mul-add-div-right z i (k - at) ∙ ap (λ (j : ℕ). i + j) (div-eq-of-lt x) ∙ add-zero i in
+      let m : k % s .n .0 ≡ k - at = ap (λ (j : ℕ). j % s .n .0) (sym e) ∙ mul-add-mod-self-right i (s .n .0) (k - at) ∙ mod-eq-of-lt x in
+      let f : first + (y - first) ≡ y = omega arith in
+      rw (d, m, f)
+
+  -- One raster more is painted.
+  pub row-turn : (o p q : List ℕ) → at + s .n .0 ≤ length o → Paints 0 o p 0 at (rowsInk s pens table video cursor first)
+      → q ≡ painted p at (at + s .n .0) (from at (ink s pens table video cursor y)) → Paints 0 o q 0 (at + s .n .0) (rowsInk s pens table video cursor first)
+  row-turn o p q room so-far e =
+      paint-next {d = 0} (omega arith) (omega arith) so-far
+      (paint-as (rowsInk s pens table video cursor first) row-same (paints-of (rw (so-far .len) room) e))
+
+pub lent-row : {s : Setting} {video cursor o p : List ℕ} (first end y at : ℕ) → Lent s (s .n .0 * (end - first)) video cursor o → length p ≡ length o
+    → first ≤ y → y < end → at ≡ (y - first) * s .n .0 → Lent s (at + s .n .0) video cursor p
+lent-row {s} first end y at r e a h start =
+    record { accepted = r .accepted; room = omega (arith, r .room, row-room s first end y a h); video-words = r .video-words; cursor-words = r .cursor-words }

@@ -4,7 +4,7 @@ use mathlib.Core.Bool.{Bool, true, false, _&&_, not}
 use mathlib.Core.Path.{_≡_, refl, sym, ap, _∙_}
 use mathlib.Core.List.{List}
 use mathlib.Core.Logic.{inl, inr}
-use native.Mathlib.Nat.{mod-eq-of-lt, mod-lt, one-mul, sub-zero, zero-add}
+use native.Mathlib.Nat.{mod-eq-of-lt, mod-lt, one-mul, sub-zero, zero-add, div-eq-of-lt, add-zero}
 use native.Mathlib.Omega.{arith}
 use borrow.Author.Tests.{not-true, eqb-false}
 use lib.Arith.{digits-div, digits-mod}
@@ -25,7 +25,7 @@ use Rattle.registers.specs.declared.setting.Setting.{Setting}
 use Rattle.colours.specs.Colour.{colourOf}
 use Rattle.frame.specs.Pixel.{position, logical, cursorPair}
 use Rattle.frame.specs.Cell.{inDisplay, inBorder, inCursor, plainCode, covered, code, cell}
-use Rattle.frame.specs.Ink.{from, byteInk, bytesInk, wordsInk, displayInk, plainInk, ink, frameInk, shade, pensOf}
+use Rattle.frame.specs.Ink.{byteInk, bytesInk, wordsInk, displayInk, plainInk, ink, rowsInk, rowsCell, shade, pensOf}
 use Rattle.frame.proofs.PixelPlaces.{per-least, per-most, pixel-byte}
 use Rattle.frame.proofs.Words.{part-room}
 use Rattle.frame.specs.Frame.{cells, frameCell, rasterCell}
@@ -103,6 +103,10 @@ module _ (g : Registers) (s : Setting) (table video cursor : List ℕ) (x y : �
       over : covered s cursor x y ≡ true → getD (pensOf g) (cursorPair s cursor y (x - s .cx .0)) 0 ≡ 6 * 8192 + cursorOf g (cursorPair s cursor y (x - s .cx .0))
       over e = pen-at g (cursorPair s cursor y (x - s .cx .0)) pair-below (eqb-false _ _ (pair-shown e))
 
+-- One raster alone has as many places as it has positions.
+pub one-raster : (n y : ℕ) → n * (y + 1 - y) ≡ n
+one-raster n y = let q : y + 1 - y ≡ 1 = omega arith in rw q (omega arith)
+
 -- What `shades` makes is right, and so is what `bytes` makes of it.
 shades-right : (g : Registers) (d : ℕ) (shades : List ℕ) → d ≤ 8 → shades ≡ painted (replicate 256 0) 0 (2 ^ d) (shade g d) → Shades g d shades
 shades-right g d shades h e p b =
@@ -125,17 +129,27 @@ module _ (g : Registers) (s : Setting) (pens shades table video cursor o p : Lis
       (ink-cell g s table video cursor x y depth
       (bytes-right g (s .depth) shades table depth (shades-right g (s .depth) shades (depth-most depth) shades-is) table-is))
 
-  pub frame-law : cells s ≤ length o → p ≡ painted o 0 (cells s) (frameInk s pens table video cursor)
+  pub rows-law : (first m : ℕ) → m ≤ length o → p ≡ painted o 0 m (rowsInk s pens table video cursor first) → p ≡ painted o 0 m (rowsCell g s video cursor first)
+  unfolding rowsInk rowsCell
+  rows-law first m room e =
+      paints-painted {d = 0} {f = rowsCell g s video cursor first} room
+      (paint-as (rowsCell g s video cursor first) (λ k a b. same (k % s .n .0) (first + k / s .n .0))
+      (paints-of {d = 0} {f = rowsInk s pens table video cursor first} room e))
+
+-- All rasters are the frame, and one alone is that raster.
+module _ (g : Registers) (s : Setting) (video cursor o p : List ℕ) where
+  pub frame-law : cells s ≤ length o → p ≡ painted o 0 (s .n .0 * (s .v .0 - 0)) (rowsCell g s video cursor 0)
       → p ≡ painted o 0 (cells s) (frameCell g s video cursor)
-  unfolding frameInk frameCell
+  unfolding rowsCell frameCell
   frame-law room e =
       paints-painted {d = 0} {f = frameCell g s video cursor} room
-      (paint-as (frameCell g s video cursor) (λ k a b. same (k % s .n .0) (k / s .n .0)) (paints-of {d = 0} {f = frameInk s pens table video cursor} room e))
+      (paint-as (frameCell g s video cursor) (λ k a b. rw (zero-add (k / s .n .0)))
+      (paints-of {d = 0} {f = rowsCell g s video cursor 0} room (rw (sub-zero (s .v .0)) at e)))
 
-  pub raster-law : (y : ℕ) → s .n .0 ≤ length o → p ≡ painted o 0 (0 + s .n .0) (from 0 (ink s pens table video cursor y))
+  pub raster-law : (y : ℕ) → s .n .0 ≤ length o → p ≡ painted o 0 (s .n .0 * (y + 1 - y)) (rowsCell g s video cursor y)
       → p ≡ painted o 0 (s .n .0) (rasterCell g s video cursor y)
-  unfolding from rasterCell
+  unfolding rowsCell rasterCell
   raster-law y room e =
       paints-painted {d = 0} {f = rasterCell g s video cursor y} room
-      (paint-as (rasterCell g s video cursor y) (λ k a b. rw (sub-zero k) (same k y))
-      (paints-of {d = 0} {f = from 0 (ink s pens table video cursor y)} room (rw (zero-add (s .n .0)) at e)))
+      (paint-as (rasterCell g s video cursor y) (λ k a b. rw (div-eq-of-lt b, mod-eq-of-lt b, add-zero y))
+      (paints-of {d = 0} {f = rowsCell g s video cursor y} room (rw (one-raster (s .n .0) y) at e)))

@@ -12,7 +12,7 @@ use Rattle.registers.specs.declared.record.Registers.{Registers}
 use Rattle.registers.specs.declared.setting.Setting.{Setting}
 use Rattle.colours.specs.Colour.{colourOf}
 use Rattle.frame.specs.Pixel.{position, cursorPair}
-use Rattle.frame.specs.Cell.{plainCode, covered}
+use Rattle.frame.specs.Cell.{inDisplay, inBorder, plainCode, covered, cell}
 
 -- A rule over the places of a stretch, moved to where that stretch starts.
 unfoldable pub from : ℕ → (ℕ → ℕ) → ℕ → ℕ
@@ -44,19 +44,31 @@ displayInk s table video y x = wordsInk table video (8 / s .depth) (position s x
 abbrev pub blankOf : Setting → ℕ → ℕ
 blankOf s y = pick (ltb y (s .vs .0)) 2 0 * 8192
 
+-- Position x of raster y outside the display.
+unfoldable pub edgeInk : Setting → List ℕ → ℕ → ℕ → ℕ
+edgeInk s pens y x = pick (ltb x (s .hs .0)) (blankOf s y + 8192) (pick (inBorder s x y) (getD pens 0 0) (blankOf s y))
+
 -- Position x of raster y with no cursor.
 unfoldable pub plainInk : Setting → List ℕ → List ℕ → List ℕ → ℕ → ℕ → ℕ
 plainInk s pens table video y x =
     pick (eqb (plainCode s x y) 5) (displayInk s table video y x)
     (pick (eqb (plainCode s x y) 4) (getD pens 0 0) (plainCode s x y * 8192))
 
+-- The same over a line of the cells outside the display.
+unfoldable pub linedInk : Setting → List ℕ → List ℕ → List ℕ → ℕ → ℕ → ℕ
+linedInk s line table video y x = pick (inDisplay s x y) (displayInk s table video y x) (getD line x 0)
+
 unfoldable pub ink : Setting → List ℕ → List ℕ → List ℕ → List ℕ → ℕ → ℕ → ℕ
 ink s pens table video cursor y x =
     pick (covered s cursor x y) (getD pens (cursorPair s cursor y (x - s .cx .0)) 0) (plainInk s pens table video y x)
 
--- Place k of a frame.
-unfoldable pub frameInk : Setting → List ℕ → List ℕ → List ℕ → List ℕ → ℕ → ℕ
-frameInk s pens table video cursor k = ink s pens table video cursor (k / s .n .0) (k % s .n .0)
+-- Place k of rasters one after another, from the first on.
+unfoldable pub rowsInk : Setting → List ℕ → List ℕ → List ℕ → List ℕ → ℕ → ℕ → ℕ
+rowsInk s pens table video cursor first k = ink s pens table video cursor (first + k / s .n .0) (k % s .n .0)
+
+-- The same by the cell rule.
+unfoldable pub rowsCell : Registers → Setting → List ℕ → List ℕ → ℕ → ℕ → ℕ
+rowsCell g s video cursor first k = cell g s video cursor (k % s .n .0) (first + k / s .n .0)
 
 -- The cursor over cells that stand in a raster at place `at`.
 unfoldable pub coverInk : Setting → List ℕ → List ℕ → ℕ → ℕ → List ℕ → ℕ → ℕ

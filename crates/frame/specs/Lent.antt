@@ -1,11 +1,14 @@
 -- What the painters ask of what they are lent: an accepted setting, room, the words that the frame needs, whole parts of a word.
 use Prim.Native.Nat.{ℕ, _+_, _*_, _≤_, _<_}
+use mathlib.Core.Bool.{Bool, _||_}
 use mathlib.Core.List.{List}
 use mathlib.Core.Path.{_≡_}
-use lib.ListN.{length}
+use lib.Dec.{eqb}
+use lib.ListN.{length, getD}
 use Rattle.registers.proofs.Accepted.{Accepted}
 use Rattle.registers.specs.Setting.{videoWords, cursorWords}
 use Rattle.registers.specs.declared.setting.Setting.{Setting}
+use Rattle.frame.specs.Ink.{edgeInk}
 
 -- Room up to the place `end`.
 pub record Lent (s : Setting) (end : ℕ) (video cursor out : List ℕ) : Type 0 where
@@ -24,6 +27,14 @@ pub record Pointed (s : Setting) (at : ℕ) (cursor out : List ℕ) : Type 0 whe
   pub accepted : Accepted s
   pub room : at + s .n .0 ≤ length out
   pub words : length cursor ≡ cursorWords s
+
+-- A line holds raster y's cells outside the display.
+pub record Edged (s : Setting) (pens : List ℕ) (y : ℕ) (line : List ℕ) : Type 0 where
+  pub held : (x : ℕ) → x < s .n .0 → getD line x 0 ≡ edgeInk s pens y x
+
+-- Only from these rasters on can such cells differ from those of the raster before.
+abbrev pub anew : Setting → ℕ → ℕ → Bool
+anew s first y = eqb y first || eqb y (s .vs .0) || eqb y (s .vbs .0) || eqb y (s .vbe .0)
 
 -- A word in parts of so many bytes, `per` pixels to a byte and no more than 8 to a part.
 pub record Parts (per bytes parts : ℕ) : Type 0 where

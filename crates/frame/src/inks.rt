@@ -1,18 +1,16 @@
 // Cells made ready, once for each call: a display cell for each logical pixel, and the cells of border and cursor.
 use crate::bytes::bytes;
-use crate::rows::row;
 use crate::rows::rows;
 use colours::colour;
 use registers::record::Registers;
 use registers::setting::Setting;
 use registers::units::Rasters;
 ghost use mathlib.Core.Path.{_≡_};
-ghost use Prim.Native.Nat.{_*_, _^_, _≤_};
+ghost use Prim.Native.Nat.{_*_, _-_, _^_, _≤_};
 ghost use lib.ListN.{replicate};
 ghost use Rattle.buffers.specs.Painted.{painted};
-ghost use Rattle.frame.specs.Frame.{cells, frameCell, rasterCell};
 ghost use Rattle.frame.specs.Lent.{Lent};
-ghost use Rattle.frame.specs.Ink.{shade, pensOf};
+ghost use Rattle.frame.specs.Ink.{shade, pensOf, rowsCell};
 
 fn shades(g: Registers, depth: u8) -> [u16; 256]
     requires { ⌜ depth ≤ 8 ⌝ }
@@ -38,31 +36,22 @@ fn pens(g: Registers) -> [u16; 4]
     [border, one, two, three]
 }
 
-pub fn paint_frame(out: &mut [u16], g: Registers, s: Setting, video: &[u32], cursor: &[u32])
-    requires { ⌜ Lent s (cells s) (now video) (now cursor) (now out) ⌝ }
-    ensures { λ _. ⌜ now (out .exit) ≡ painted (now (out .entry)) 0 (cells s)
-        (frameCell g s (now (video .entry)) (now (cursor .entry))) ⌝ }
-{
-    let cells = shades(g, s.depth);
-    let table = bytes(&cells, s.depth);
-    let inks = pens(g);
-    rows(out, s, &inks, &table, video, cursor);
-}
-
-pub fn paint_raster(
+// The rasters from the first up to the end, by the cell rule.
+pub fn paint(
     out: &mut [u16],
     g: Registers,
     s: Setting,
-    y: Rasters,
+    first: Rasters,
+    end: Rasters,
     video: &[u32],
     cursor: &[u32],
 )
-    requires { ⌜ Lent s (s .n .0) (now video) (now cursor) (now out) ⌝ }
-    ensures { λ _. ⌜ now (out .exit) ≡ painted (now (out .entry)) 0 (s .n .0)
-        (rasterCell g s (now (video .entry)) (now (cursor .entry)) (y .0)) ⌝ }
+    requires { ⌜ Lent s (s .n .0 * (end .0 - first .0)) (now video) (now cursor) (now out) × (first .0 ≤ end .0) ⌝ }
+    ensures { λ _. ⌜ now (out .exit) ≡ painted (now (out .entry)) 0 (s .n .0 * (end .0 - first .0))
+        (rowsCell g s (now (video .entry)) (now (cursor .entry)) (first .0)) ⌝ }
 {
     let cells = shades(g, s.depth);
     let table = bytes(&cells, s.depth);
     let inks = pens(g);
-    row(out, 0, s, y, &inks, &table, video, cursor);
+    rows(out, s, first, end, &inks, &table, video, cursor);
 }

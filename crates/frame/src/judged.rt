@@ -1,6 +1,5 @@
 // The rows of the table after the setting's: 11, 12, 13 as far as they apply, and then the painting.
-use crate::inks::paint_frame;
-use crate::inks::paint_raster;
+use crate::inks::paint;
 use crate::units::wide;
 use crate::words_wrong;
 use registers::record::Registers;
@@ -41,7 +40,7 @@ pub fn judged_frame(
     if out.len() < frame_cells(s) {
         return Answer::Refused(Refusal::Short);
     }
-    paint_frame(out, g, s, video, cursor);
+    paint(out, g, s, Rasters(0), s.v, video, cursor);
     Answer::Done
 }
 
@@ -67,6 +66,6 @@ pub fn judged_raster(
     if out.len() < wide(s.n) {
         return Answer::Refused(Refusal::Short);
     }
-    paint_raster(out, g, s, y, video, cursor);
+    paint(out, g, s, y, Rasters(y.0 + 1), video, cursor);
     Answer::Done
 }

@@ -18,6 +18,7 @@ mod display;
 mod fill;
 mod inks;
 mod judged;
+mod lines;
 mod plain;
 mod rows;
 mod units;

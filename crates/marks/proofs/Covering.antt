@@ -11,7 +11,8 @@ use lib.Dec.{eqb}
 use lib.ListN.{length, getD}
 use lib.Pow.{pow-mono}
 use Rattle.buffers.specs.Pick.{pick}
-use Rattle.buffers.proofs.Tests.{no, unless, and-split}
+use Rattle.buffers.proofs.Tests.{no, and-split}
+use Rattle.buffers.proofs.Split.{is-false}
 use Rattle.buffers.proofs.Product.{product-below}
 use Rattle.registers.specs.Setting.{rasterWords, videoWords, cursorWords}
 use Rattle.registers.specs.declared.setting.Setting.{Setting}
@@ -54,7 +55,7 @@ module _ (s : Setting) (video cursor pixels : List ℕ) (a : Accepted s) (y i : 
   pub cursor-out : (Displayed s (s .cx .0 + i) y → ⊥) → 0 ≡ cursorBright s video cursor pixels y i
   unfolding cursorBright
   cursor-out h =
-      let off : eqb (plainCode s (s .cx .0 + i) y) 5 ≡ false = plain-five s (s .cx .0 + i) y a ∙ unless (inDisplay s (s .cx .0 + i) y) (λ e. h (displayed s (s .cx .0 + i) y e)) in
+      let off : eqb (plainCode s (s .cx .0 + i) y) 5 ≡ false = plain-five s (s .cx .0 + i) y a ∙ is-false (inDisplay s (s .cx .0 + i) y) (λ e. h (displayed s (s .cx .0 + i) y e)) in
       rw off
 
   pub cursor-clear : cursorPair s cursor y i ≡ 0 → 0 ≡ cursorBright s video cursor pixels y i
@@ -63,7 +64,7 @@ module _ (s : Setting) (video cursor pixels : List ℕ) (a : Accepted s) (y i : 
       let x = s .cx .0 + i in
       let back : cursorPair s cursor y (x - s .cx .0) ≡ 0 = ap (cursorPair s cursor y) (add-sub-cancel-left (s .cx .0) i) ∙ e in
       let off : (eqb (plainCode s x y) 5 && covered s cursor x y) ≡ false =
-      unless (eqb (plainCode s x y) 5 && covered s cursor x y)
+      is-false (eqb (plainCode s x y) 5 && covered s cursor x y)
       (λ t. no (sym (is-covered s x y cursor (and-split (eqb (plainCode s x y) 5) (covered s cursor x y) t .1) .shown) ∙ eq-eqb (cursorPair s cursor y (x - s .cx .0)) 0 back)) in
       rw off
 

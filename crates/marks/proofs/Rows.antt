@@ -8,7 +8,8 @@ use native.Mathlib.Omega.{arith}
 use lib.Arith.{digits-div, digits-mod}
 use lib.Dec.{eqb}
 use borrow.Author.Tests.{lt-ltb}
-use Rattle.buffers.proofs.Tests.{no, unless, and-split}
+use Rattle.buffers.proofs.Tests.{no, and-split}
+use Rattle.buffers.proofs.Split.{is-false}
 use Rattle.registers.specs.Setting.{displayOn}
 use Rattle.registers.specs.declared.record.Registers.{Registers}
 use Rattle.registers.specs.declared.setting.Setting.{Setting}
@@ -46,14 +47,14 @@ rows-add s f h e p =
 
 module _ (s : Setting) (a : Accepted s) (video cursor pixels : List ℕ) where
   display-none : (y x : ℕ) → (Displayed s x y → ⊥) → displayBright s video pixels y x ≡ 0
-  display-none y x h = rw (unless (inDisplay s x y) (λ e. h (displayed s x y e)))
+  display-none y x h = rw (is-false (inDisplay s x y) (λ e. h (displayed s x y e)))
 
   display-row-none : (y : ℕ) → ((x : ℕ) → Displayed s x y → ⊥) → total (displayBright s video pixels y) (s .n .0) ≡ 0
   display-row-none y h = total-none (displayBright s video pixels y) (s .n .0) (λ x l. display-none y x (h x))
 
   covered-none : (y x : ℕ) → (Displayed s x y → Covered s cursor x y → ⊥) → coveredBright s video cursor pixels y x ≡ 0
   covered-none y x h =
-      rw (unless (eqb (plainCode s x y) 5 && covered s cursor x y)
+      rw (is-false (eqb (plainCode s x y) 5 && covered s cursor x y)
       (λ e. let p = and-split (eqb (plainCode s x y) 5) (covered s cursor x y) e in
       h (displayed s x y (sym (plain-five s x y a) ∙ p .0)) (is-covered s x y cursor (p .1))))
 

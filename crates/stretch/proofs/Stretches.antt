@@ -6,7 +6,8 @@ use native.Mathlib.Nat.{add-mul, mul-le-mul-right}
 use native.Mathlib.Omega.{arith}
 use borrow.Author.Tests.{lt-ltb}
 use Rattle.buffers.proofs.Product.{product-below}
-use Rattle.buffers.proofs.Tests.{unless, and-split, and-join}
+use Rattle.buffers.proofs.Tests.{and-split, and-join}
+use Rattle.buffers.proofs.Split.{is-false}
 use Rattle.registers.specs.Setting.{displayOn, rasterWords, videoWords}
 use Rattle.registers.specs.declared.setting.Setting.{Setting}
 use Rattle.registers.proofs.Accepted.{Accepted}
@@ -24,7 +25,7 @@ module _ (s : Setting) (y : ℕ) where
 
   pub stretch-none : ((s .vds .0 ≤ y) × (y < s .vde .0) → ⊥) → none ≡ stretchOf s y
   unfolding stretchOf
-  stretch-none h = rw (unless (isDisplayed s y) (λ e. h (in-rasters e)))
+  stretch-none h = rw (is-false (isDisplayed s y) (λ e. h (in-rasters e)))
 
   pub stretch-at : s .vds .0 ≤ y → y < s .vde .0
       → stretchOf s y ≡ record { start = (y - s .vds .0) * rasterWords s; count = rasterWords s }

@@ -1,6 +1,8 @@
-use mathlib.Core.Path.{refl, sym, _∙_}
-use borrow.Author.Tests.{lt-ltb, le-ltb, le-leb, lt-leb}
+use Rattle.frame.proofs.Ready.{one-raster, raster-law}
 use Rattle.frame.proofs.Calls.{lent-by}
+use borrow.Author.Tests.{lt-ltb, le-ltb, le-leb, lt-leb}
+use native.Mathlib.Omega.{arith}
+use mathlib.Core.Path.{refl, sym, _∙_}
 use borrow.Author.Needs.{needs}
 use Rattle.frame.proofs.judged.judged_raster.Statement.{statement}
 use Rattle.frame.proofs.judged.judged_raster.Tie as tie
@@ -20,14 +22,17 @@ wide-requires c κs = search needs
 returns-3 : tie.Need-returns-3
 returns-3 c = (simp (sym (c .before .before .before .before .before .before .words-wrong .ensures) ∙ c .before .before .before .before .before .if1 .left, lt-leb _ _ (c .before .before .if2 .left), lt-ltb _ _ (rw (c .before .wide .ensures) at (c .if3 .taken))), refl)
 
-paint-raster-requires : tie.Need-paint-raster-requires
-paint-raster-requires c κs = lent-by (c .before .before .before .before .before .before .before .before .before .before .before .pre) (rw (c .before .before .wide .ensures) at (c .before .if3 .left)) (sym (c .before .before .before .before .before .before .before .words-wrong .ensures) ∙ c .before .before .before .before .before .before .if1 .left)
+add-t17 : tie.Need-add-t17
+add-t17 c = search needs
+
+paint-requires : tie.Need-paint-requires
+paint-requires c κs = (rw (one-raster (c .before .before .before .before .before .before .before .before .before .before .before .before .args .s .n .0) (c .before .before .before .before .before .before .before .before .before .before .before .before .args .y .0)) (lent-by (c .before .before .before .before .before .before .before .before .before .before .before .before .pre) (rw (c .before .before .before .wide .ensures) at (c .before .before .if3 .left)) (sym (c .before .before .before .before .before .before .before .before .words-wrong .ensures) ∙ c .before .before .before .before .before .before .before .if1 .left)), omega arith)
 
 same-length : tie.Need-same-length
 same-length c = search needs
 
 returns-4 : tie.Need-returns-4
-returns-4 c = (simp (sym (c .before .before .before .before .before .before .before .before .before .before .words-wrong .ensures) ∙ c .before .before .before .before .before .before .before .before .before .if1 .left, lt-leb _ _ (c .before .before .before .before .before .before .if2 .left), le-ltb _ _ (rw (c .before .before .before .before .before .wide .ensures) at (c .before .before .before .before .if3 .left))), c .before .before .paint-raster .ensures)
+returns-4 c = (simp (sym (c .before .before .before .before .before .before .before .before .before .before .before .words-wrong .ensures) ∙ c .before .before .before .before .before .before .before .before .before .before .if1 .left, lt-leb _ _ (c .before .before .before .before .before .before .before .if2 .left), le-ltb _ _ (rw (c .before .before .before .before .before .before .wide .ensures) at (c .before .before .before .before .before .if3 .left))), raster-law _ _ _ _ _ _ _ (rw (c .before .before .before .before .before .before .wide .ensures) at (c .before .before .before .before .before .if3 .left)) (c .before .before .paint .ensures))
 
 pub judged-raster-spec : {M : Type 1} → statement M
 judged-raster-spec =
@@ -38,6 +43,7 @@ judged-raster-spec =
     returns-2
     wide-requires
     returns-3
-    paint-raster-requires
+    add-t17
+    paint-requires
     same-length
     returns-4)

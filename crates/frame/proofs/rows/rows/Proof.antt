@@ -1,35 +1,39 @@
-use borrow.Author.Needs.{needs}
-use native.Mathlib.Nat.{mul-comm}
-use native.Mathlib.Omega.{arith}
-use Rattle.frame.proofs.Rasters.{lent-row, row-room, row-turn}
-use Rattle.frame.specs.Ink.{frameInk}
-use Prim.Native.Nat.{ℕ, _-_, _*_, _≤_}
-use mathlib.Core.Path.{_≡_, ap, _∙_}
+use Rattle.frame.proofs.Rasters.{lent-row, row-room, row-turn, no-place, next-place}
+use Rattle.frame.proofs.Edges.{first-edged, edged-next}
+use Rattle.frame.specs.Lent.{Edged, anew}
+use Rattle.frame.specs.Ink.{rowsInk}
 use Rattle.buffers.proofs.Paints.{Paints, paint-none, paints-painted}
+use mathlib.Core.Path.{_≡_, ap, _∙_}
+use mathlib.Core.Bool.{false}
+use Prim.Native.Nat.{ℕ, _-_, _*_, _≤_}
+use native.Mathlib.Omega.{arith}
+use native.Mathlib.Nat.{mul-comm}
+use borrow.Author.Needs.{needs}
 use Rattle.frame.proofs.rows.rows.Statement.{statement}
 use Rattle.frame.proofs.rows.rows.Tie as tie
 
 abbrev Inv-loop : tie.InvT-loop
-Inv-loop out₀ s pens table video cursor n at₀ y₀ out at y = (y ≤ s .v .0) × (at ≡ y * s .n .0) × Paints 0 out₀ out 0 at (frameInk s pens table video cursor)
+Inv-loop out₀ s first end pens table video cursor n line₀ at₀ y₀ out line at y =
+    (first .0 ≤ y) × (y ≤ end .0) × (at ≡ (y - first .0) * s .n .0) × Paints 0 out₀ out 0 at (rowsInk s pens table video cursor (first .0))
+    × (anew s (first .0) y ≡ false → Edged s pens y line)
 
 abbrev μ-loop : tie.MeasureT-loop
-μ-loop out₀ s pens table video cursor n at₀ y₀ out at y = s .v .0 - y
+μ-loop out₀ s first end pens table video cursor n line₀ at₀ y₀ out line at y = end .0 - y
 
 wide-requires : tie.Need-wide-requires Inv-loop μ-loop
 wide-requires c κs = search needs
 
 loop-holds : tie.Need-loop-holds Inv-loop μ-loop
-loop-holds c = (omega arith, omega arith, paint-none _ _)
+loop-holds c = (omega arith, c .before .before .before .before .pre .1, no-place (c .before .before .before .before .args .first .0) (c .before .before .before .before .args .s .n .0), paint-none _ _, first-edged (c .before .before .before .before .args .s) _ _ (c .before .before .before .before .args .first .0))
+
+renew-requires : tie.Need-renew-requires Inv-loop μ-loop
+renew-requires c κs = (c .before .before .before .before .before .before .before .before .pre .0 .accepted, c .before .before .before .loop .inv .4)
 
 row-requires : tie.Need-row-requires Inv-loop μ-loop
-row-requires c κs = let s = c .before .before .before .before .before .before .before .before in
-    let l = c .before .before .before .loop in
-    lent-row (l .y) _ (s .pre) (l .inv .2 .len) (c .before .if1 .taken) (l .inv .1)
+row-requires c κs = (lent-row (c .before .before .before .before .before .before .before .before .before .before .before .args .first .0) (c .before .before .before .before .before .before .before .before .before .before .before .args .end .0) (c .before .before .before .before .before .before .loop .y) _ (c .before .before .before .before .before .before .before .before .before .before .before .pre .0) (c .before .before .before .before .before .before .loop .inv .3 .len) (c .before .before .before .before .before .before .loop .inv .0) (c .before .before .before .before .if1 .taken) (c .before .before .before .before .before .before .loop .inv .2), c .before .before .renew .ensures)
 
 add-at : tie.Need-add-at Inv-loop μ-loop
-add-at c = let s = c .before .before .before .before .before .before .before .before .before .before .before in
-    let l = c .before .before .before .before .before .before .loop in
-    omega (arith, c .before .before .before .before .before .before .before .wide .ensures, l .inv .1, s .pre .room, row-room (s .args .s) (s .pre .accepted) (l .y) (c .before .before .before .before .if1 .taken))
+add-at c = omega (arith, c .before .before .before .before .before .before .before .before .before .before .wide .ensures, c .before .before .before .before .before .before .before .before .before .loop .inv .2, c .before .before .before .before .before .before .before .before .before .before .before .before .before .before .pre .0 .room, row-room (c .before .before .before .before .before .before .before .before .before .before .before .before .before .before .args .s) (c .before .before .before .before .before .before .before .before .before .before .before .before .before .before .args .first .0) (c .before .before .before .before .before .before .before .before .before .before .before .before .before .before .args .end .0) (c .before .before .before .before .before .before .before .before .before .loop .y) (c .before .before .before .before .before .before .before .before .before .loop .inv .0) (c .before .before .before .before .before .before .before .if1 .taken))
 
 add-y : tie.Need-add-y Inv-loop μ-loop
 add-y c = search needs
@@ -38,24 +42,13 @@ loop-less : tie.Need-loop-less Inv-loop μ-loop
 loop-less c = search needs
 
 loop-again : tie.Need-loop-again Inv-loop μ-loop
-loop-again c = let s = c .before .before .before .before .before .before .before .before .before .before .before in
-    let l = c .before .before .before .before .before .before .loop in (
-      omega (arith, c .before .before .before .before .if1 .taken),
-      omega (arith, c .before .before .before .before .before .before .before .wide .ensures, l .inv .1),
-      rw (c .before .before .before .before .before .before .before .wide .ensures)
-          (row-turn (s .args .s) (s .pre .accepted) (l .y) _ _ _ _ _ (l .inv .1) _ _ _ (omega (arith, l .inv .1, s .pre .room, row-room (s .args .s) (s .pre .accepted) (l .y) (c .before .before .before .before .if1 .taken)))
-          (l .inv .2) (c .before .before .row .ensures)),
-    )
+loop-again c = (omega (arith, c .before .before .before .before .before .before .before .before .before .loop .inv .0), omega (arith, c .before .before .before .before .before .before .before .if1 .taken), rw (c .before .before .before .before .before .before .before .before .before .before .wide .ensures) (next-place (c .before .before .before .before .before .before .before .before .before .before .before .before .before .before .args .first .0) (c .before .before .before .before .before .before .before .before .before .loop .y) (c .before .before .before .before .before .before .before .before .before .loop .at) (c .before .before .before .before .before .before .before .before .before .before .before .before .before .before .args .s .n .0) (c .before .before .before .before .before .before .before .before .before .loop .inv .0) (c .before .before .before .before .before .before .before .before .before .loop .inv .2)), rw (c .before .before .before .before .before .before .before .before .before .before .wide .ensures) (row-turn (c .before .before .before .before .before .before .before .before .before .before .before .before .before .before .args .s) _ _ _ _ (c .before .before .before .before .before .before .before .before .before .before .before .before .before .before .args .first .0) (c .before .before .before .before .before .before .before .before .before .loop .y) (c .before .before .before .before .before .before .before .before .before .loop .inv .0) (c .before .before .before .before .before .before .before .before .before .loop .at) (c .before .before .before .before .before .before .before .before .before .loop .inv .2) _ _ _ (omega (arith, c .before .before .before .before .before .before .before .before .before .loop .inv .2, c .before .before .before .before .before .before .before .before .before .before .before .before .before .before .pre .0 .room, row-room (c .before .before .before .before .before .before .before .before .before .before .before .before .before .before .args .s) (c .before .before .before .before .before .before .before .before .before .before .before .before .before .before .args .first .0) (c .before .before .before .before .before .before .before .before .before .before .before .before .before .before .args .end .0) (c .before .before .before .before .before .before .before .before .before .loop .y) (c .before .before .before .before .before .before .before .before .before .loop .inv .0) (c .before .before .before .before .before .before .before .if1 .taken))) (c .before .before .before .before .before .before .before .before .before .loop .inv .3) (c .before .before .row .ensures)), λ e. edged-next (c .before .before .before .before .before .before .before .before .before .before .before .before .before .before .args .s) _ (c .before .before .before .before .before .before .before .before .before .before .before .before .before .before .args .first .0) (c .before .before .before .before .before .before .before .before .before .loop .y) e _ (c .before .before .before .before .before .renew .ensures))
 
 same-length : tie.Need-same-length Inv-loop μ-loop
-same-length c = c .before .before .loop .inv .2 .len
+same-length c = c .before .before .loop .inv .3 .len
 
 returns : tie.Need-returns Inv-loop μ-loop
-returns c = let s = c .before .before .before .before .before .before .before in
-    let l = c .before .before .loop in
-    let y : l .y ≡ s .args .s .v .0 = omega (arith, l .inv .0, c .if1 .left) in
-    let e : l .at ≡ s .args .s .n .0 * s .args .s .v .0 = l .inv .1 ∙ ap (λ (k : ℕ). k * s .args .s .n .0) y ∙ mul-comm _ _ in
-    paints-painted (s .pre .room) (rw e at (l .inv .2))
+returns c = let y : c .before .before .loop .y ≡ c .before .before .before .before .before .before .before .args .end .0 = omega (arith, c .before .before .loop .inv .1, c .if1 .left) in let e : c .before .before .loop .at ≡ c .before .before .before .before .before .before .before .args .s .n .0 * (c .before .before .before .before .before .before .before .args .end .0 - c .before .before .before .before .before .before .before .args .first .0) = c .before .before .loop .inv .2 ∙ ap (λ (k : ℕ). (k - c .before .before .before .before .before .before .before .args .first .0) * c .before .before .before .before .before .before .before .args .s .n .0) y ∙ mul-comm _ _ in paints-painted (c .before .before .before .before .before .before .before .pre .0 .room) (rw e at (c .before .before .loop .inv .3))
 
 pub rows-spec : {M : Type 1} → statement M
 rows-spec =
@@ -65,6 +58,7 @@ rows-spec =
     μ-loop
     wide-requires
     loop-holds
+    renew-requires
     row-requires
     add-at
     add-y

@@ -1,7 +1,7 @@
 use borrow.Author.Tests.{lt-ltb, le-ltb}
 use borrow.Author.Needs.{needs}
-use Rattle.frame.proofs.plain.blank.Statement.{statement}
-use Rattle.frame.proofs.plain.blank.Tie as tie
+use Rattle.frame.proofs.lines.blank.Statement.{statement}
+use Rattle.frame.proofs.lines.blank.Tie as tie
 
 mul-result : tie.Need-mul-result
 mul-result c = search needs

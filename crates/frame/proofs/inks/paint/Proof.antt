@@ -1,0 +1,28 @@
+use Rattle.frame.proofs.Ready.{rows-law}
+use Rattle.registers.proofs.Words.{depth-most}
+use borrow.Author.Needs.{needs}
+use Rattle.frame.proofs.inks.paint.Statement.{statement}
+use Rattle.frame.proofs.inks.paint.Tie as tie
+
+shades-requires : tie.Need-shades-requires
+shades-requires c κs = depth-most (c .before .before .before .pre .0 .accepted .depth)
+
+bytes-requires : tie.Need-bytes-requires
+bytes-requires c κs = search needs
+
+pens-requires : tie.Need-pens-requires
+pens-requires c κs = search needs
+
+rows-requires : tie.Need-rows-requires
+rows-requires c κs = search needs
+
+same-length : tie.Need-same-length
+same-length c = search needs
+
+returns : tie.Need-returns
+returns c = rows-law (c .before .before .before .before .before .before .before .before .before .before .before .before .before .args .g) (c .before .before .before .before .before .before .before .before .before .before .before .before .before .args .s) _ _ _ _ _ _ _ (c .before .before .before .before .before .before .before .before .before .before .before .before .before .pre .0 .accepted .depth) (c .before .before .before .before .before .before .pens .ensures) (c .before .before .before .before .before .before .before .before .before .shades .ensures) (c .before .before .before .before .before .before .before .bytes .ensures) _ _ (c .before .before .before .before .before .before .before .before .before .before .before .before .before .pre .0 .room) (c .before .before .rows .ensures)
+
+pub paint-spec : {M : Type 1} → statement M
+paint-spec =
+    tie.close
+    (tie.spec shades-requires bytes-requires pens-requires rows-requires same-length returns)

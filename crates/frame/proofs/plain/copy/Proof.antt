@@ -1,0 +1,66 @@
+use Rattle.frame.proofs.Stretches.{copy-more}
+use Rattle.frame.specs.Ink.{from, cellIn}
+use Rattle.buffers.proofs.Paints.{Paints, paint-none, paints-painted}
+use mathlib.Core.Path.{_≡_}
+use Prim.Native.Nat.{_+_, _-_, _≤_}
+use borrow.Author.Needs.{needs}
+use native.Mathlib.Omega.{arith}
+use Rattle.frame.proofs.plain.copy.Statement.{statement}
+use Rattle.frame.proofs.plain.copy.Tie as tie
+
+abbrev Inv-loop : tie.InvT-loop
+Inv-loop out₀ at line a b k₀ out k = (a ≤ k) × (k ≤ b) × Paints 0 out₀ out (at + a) (at + k) (from at (cellIn line))
+
+abbrev μ-loop : tie.MeasureT-loop
+μ-loop out₀ at line a b k₀ out k = b - k
+
+loop-holds : tie.Need-loop-holds Inv-loop μ-loop
+loop-holds c = (omega arith, omega arith, paint-none _ _)
+
+mul-out : tie.Need-mul-out Inv-loop μ-loop
+mul-out c = search needs
+
+element-copy-out-out : tie.Need-element-copy-out-out Inv-loop μ-loop
+element-copy-out-out c = search needs
+
+add-out : tie.Need-add-out Inv-loop μ-loop
+add-out c = search needs
+
+mul-out-2 : tie.Need-mul-out-2 Inv-loop μ-loop
+mul-out-2 c = search needs
+
+slice-write-out : tie.Need-slice-write-out Inv-loop μ-loop
+slice-write-out c = search needs
+
+add-k : tie.Need-add-k Inv-loop μ-loop
+add-k c = search needs
+
+loop-less : tie.Need-loop-less Inv-loop μ-loop
+loop-less c = search needs
+
+loop-again : tie.Need-loop-again Inv-loop μ-loop
+loop-again c = (omega arith, omega arith, copy-more (c .before .before .before .args .at) (c .before .before .loop .k) (c .before .before .before .args .a) _ (omega arith) (omega (arith, c .before .before .before .pre .2)) (c .before .before .loop .inv .2))
+
+same-length : tie.Need-same-length Inv-loop μ-loop
+same-length c = c .before .loop .inv .2 .len
+
+returns : tie.Need-returns Inv-loop μ-loop
+returns c = let e : c .before .loop .k ≡ c .before .before .args .b = omega arith in paints-painted (c .before .before .pre .2) (rw e at (c .before .loop .inv .2))
+
+pub copy-spec : {M : Type 1} → statement M
+copy-spec =
+    tie.close
+    (tie.spec
+    Inv-loop
+    μ-loop
+    loop-holds
+    mul-out
+    element-copy-out-out
+    add-out
+    mul-out-2
+    slice-write-out
+    add-k
+    loop-less
+    loop-again
+    same-length
+    returns)
