@@ -1,7 +1,7 @@
 // The table that the display is painted by, made once for each call: the cells of all pixels of each byte.
 ghost use mathlib.Core.Path.{_≡_};
 ghost use Prim.Native.Nat.{_+_, _*_, _/_, _≤_};
-ghost use lib.ListN.{length, replicate};
+ghost use lib.ListN.{length};
 ghost use Rattle.buffers.specs.Painted.{painted};
 ghost use Rattle.registers.proofs.Accepted.{Depth};
 ghost use Rattle.frame.specs.Ink.{from, byteInk, bytesInk};
@@ -37,23 +37,21 @@ fn all(out: &mut [u16], per: usize, d: u32, shades: &[u16; 256])
 }
 
 // The same by depth, in literals.
-pub fn bytes(shades: &[u16; 256], d: u8) -> [u16; 2048]
+pub fn bytes(table: &mut [u16; 2048], shades: &[u16; 256], d: u8)
     requires { ⌜ Depth d ⌝ }
-    ensures { λ r. ⌜ r ≡ painted (replicate 2048 0) 0 (256 * (8 / d)) (bytesInk (now (shades .entry)) (8 / d) d) ⌝ }
+    ensures { λ _. ⌜ now (table .exit) ≡ painted (now (table .entry)) 0 (256 * (8 / d)) (bytesInk (now (shades .entry)) (8 / d) d) ⌝ }
 {
-    let mut table = [0u16; 2048];
     if d == 8 {
-        all(&mut table, 1, 8, shades);
-        return table;
+        all(table, 1, 8, shades);
+        return;
     }
     if d == 4 {
-        all(&mut table, 2, 4, shades);
-        return table;
+        all(table, 2, 4, shades);
+        return;
     }
     if d == 2 {
-        all(&mut table, 4, 2, shades);
-        return table;
+        all(table, 4, 2, shades);
+        return;
     }
-    all(&mut table, 8, 1, shades);
-    table
+    all(table, 8, 1, shades);
 }

@@ -51,7 +51,8 @@ pub fn paint(
         (rowsCell g s (now (video .entry)) (now (cursor .entry)) (first .0)) ⌝ }
 {
     let cells = shades(g, s.depth);
-    let table = bytes(&cells, s.depth);
+    let mut table = [0u16; 2048];
+    bytes(&mut table, &cells, s.depth);
     let inks = pens(g);
     rows(out, s, first, end, &inks, &table, video, cursor);
 }
