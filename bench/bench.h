@@ -27,8 +27,8 @@ static inline uint32_t grey(uint16_t colour) { return 17 * ((colour & 15) + (col
 void cells_gcc(const struct picture *, uint16_t *out);
 void stretches_gcc(const struct picture *, uint16_t *out);
 void stretches_clang(const struct picture *, uint16_t *out);
-void bytes_gcc(const struct picture *, uint16_t *out);
-void bytes_clang(const struct picture *, uint16_t *out);
+void lines_gcc(const struct picture *, uint16_t *out);
+void lines_clang(const struct picture *, uint16_t *out);
 void stretches_rust(const struct picture *, uint16_t *out);
 
 // Ours again, by the safe Rust wrapper over the same calls; a record in its own type is made beforehand.

@@ -100,7 +100,7 @@ static void ours_write(void) {
 
 static void per_cell(void) { cells_gcc(&pic, cells); }
 static void tuned_gcc(void) { stretches_gcc(&pic, cells); }
-static void by_bytes_gcc(void) { bytes_gcc(&pic, cells); }
+static void by_lines_gcc(void) { lines_gcc(&pic, cells); }
 static void rust(void) { stretches_rust(&pic, cells); }
 static void set_cells(void) { memset(cells, 1, 2 * pic.n * pic.v); }
 static void count_cells(void) { marks = count_gcc(&pic, 128); }
@@ -111,13 +111,13 @@ static void mem_copy(void) { memcpy(words_out, file, 4 * PLATE_WORDS); }
 static void mem_put(void) { memcpy(file_out, noise, 4 * PLATE_WORDS); }
 #ifdef CLANG
 static void tuned_clang(void) { stretches_clang(&pic, cells); }
-static void by_bytes_clang(void) { bytes_clang(&pic, cells); }
+static void by_lines_clang(void) { lines_clang(&pic, cells); }
 static void loop_sound_clang(void) { after = sound_clang(stereo, noise, SOUNDS, 5, sound_out); }
 static void loop_copy_clang(void) { copy_clang(file, PLATE_WORDS, words_out); }
 static void loop_put_clang(void) { put_clang(noise, PLATE_WORDS, file_out); }
 #else
 #define tuned_clang NULL
-#define by_bytes_clang NULL
+#define by_lines_clang NULL
 #define loop_sound_clang NULL
 #define loop_copy_clang NULL
 #define loop_put_clang NULL
@@ -180,8 +180,8 @@ static void same_frames(void) {
     same_frame(per_cell, "the cell by cell frame differs");
     same_frame(tuned_gcc, "the frame of stretches by gcc differs");
     same_frame(tuned_clang, "the frame of stretches by clang differs");
-    same_frame(by_bytes_gcc, "the frame of bytes by gcc differs");
-    same_frame(by_bytes_clang, "the frame of bytes by clang differs");
+    same_frame(by_lines_gcc, "the frame of lines by gcc differs");
+    same_frame(by_lines_clang, "the frame of lines by clang differs");
     same_frame(rust, "the Rust frame differs");
     ours_marks();
     uint64_t ours = marks;
@@ -260,10 +260,10 @@ static void time_frames(void) {
         void (*set)(uint32_t depth);
         int rounds;
     } sizes[3] = {{"1024 x 312", usual, 400}, {"2048 x 1024", largest, 60}, {"1024 x 1", smallest, 400}};
-    work *const runs[MOST_RUNS] = {ours_frame, by_wrapper, per_cell, tuned_gcc, tuned_clang, rust, set_cells, by_bytes_gcc,
-                                   by_bytes_clang};
+    work *const runs[MOST_RUNS] = {ours_frame, by_wrapper, per_cell, tuned_gcc, tuned_clang, rust, set_cells, by_lines_gcc,
+                                   by_lines_clang};
     printf("%-26s %9s %9s %9s %9s %9s %9s %9s %9s %9s\n", "frame", "ours us", "ours by", "per cell", "tuned", "tuned", "Rust",
-           "memset", "bytes", "bytes");
+           "memset", "lines", "lines");
     printf("%-26s %9s %9s %9s %9s %9s %9s %9s %9s %9s\n", "", "", "wrapper", "gcc", "gcc", "clang", "", "", "gcc", "clang");
     for (int size = 0; size < 3; size++)
         for (int i = 0; i < 4; i++) {

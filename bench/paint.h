@@ -1,4 +1,4 @@
-// What stretches.c and bytes.c share. The loop over rasters stands in each: one for both made clang's code of bytes.c slower.
+// What stretches.c and lines.c share.
 #include "bench.h"
 
 static void fill(uint16_t *restrict out, uint32_t from, uint32_t to, uint16_t cell) {

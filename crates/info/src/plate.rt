@@ -3,6 +3,7 @@ use crate::line::Line;
 use crate::summary::print_setting;
 use crate::verdicts::print_verdict;
 use crate::words::print_words;
+use marks::answer::Marks;
 use plates::Reading;
 use plates::Sections;
 use registers::check::Checked;
@@ -15,11 +16,27 @@ ghost use lib.ListN.{length};
 // The most bytes that the program takes.
 const MOST_INPUT: usize = 65_536;
 
+// The threshold of the mark count.
+const THRESHOLD: u8 = 128;
+
 // Both verdicts on a plate whose registers are not loaded.
 fn print_refused(why: Refusal, words: &[u32]) -> bool {
     let g = Registers::new();
     print_verdict(b"picture", Answer::Refused(why), g, words)
         && print_verdict(b"sound", Answer::Refused(why), g, words)
+}
+
+// The mark count of a picture that is accepted.
+fn print_marks(g: Registers, video: &[u32], cursor: &[u32]) -> bool {
+    match marks::marks(g, video, cursor, THRESHOLD) {
+        Marks::Count(count) => Line::new()
+            .text(b"marks: ")
+            .number(count as u64)
+            .text(b" at threshold ")
+            .number(THRESHOLD as u64)
+            .print(),
+        Marks::Refused(_) => true,
+    }
 }
 
 // The picture's verdict, behind its setting where that is accepted.
@@ -33,7 +50,7 @@ fn print_picture(g: Registers, words: &[u32], video: &[u32], cursor: &[u32]) -> 
             if frame::words_wrong(s, video, cursor) {
                 return print_verdict(b"picture", Answer::Refused(Refusal::WordCount), g, words);
             }
-            print_verdict(b"picture", Answer::Done, g, words)
+            print_marks(g, video, cursor) && print_verdict(b"picture", Answer::Done, g, words)
         }
     }
 }

@@ -1,4 +1,5 @@
-// As ours is painted: as stretches.c, but the table holds the cells of all pixels of a byte, and they are copied at once.
+// As ours is painted: the cells outside the display copied from a line that is made anew only where they change, the display
+// through a table of the cells of all pixels of a byte, copied at once.
 #include "paint.h"
 #include <string.h>
 
@@ -17,26 +18,31 @@ static void shown(uint16_t *restrict out, const uint32_t *restrict video, uint32
     else words(out, video, count, 8, table);
 }
 
-void BY(bytes)(const struct picture *restrict p, uint16_t *restrict out) {
-    uint16_t table[256 * 8], border = 4 * 8192 + p->border_colour;
+static void edges(const struct picture *restrict p, uint32_t y, uint16_t border, uint16_t *restrict line) {
+    uint16_t empty = y < p->vs ? 2 * 8192 : 0;
+    fill(line, 0, p->hs, empty + 8192);
+    if (p->vbs <= y && y < p->vbe) {
+        fill(line, p->hs, p->bs, empty);
+        fill(line, p->bs, p->be, border);
+        fill(line, p->be, p->n, empty);
+    } else fill(line, p->hs, p->n, empty);
+}
+
+void BY(lines)(const struct picture *restrict p, uint16_t *restrict out) {
+    uint16_t table[256 * 8], line[2048], border = 4 * 8192 + p->border_colour;
     uint32_t d = p->depth, per = 8 / d;
     for (uint32_t b = 0; b < 256; b++)
         for (uint32_t j = 0; j < per; j++) table[b * per + j] = 5 * 8192 + colour(p, b >> j * d & ((1u << d) - 1));
     uint32_t count = (p->de - p->ds) * d / 32;
     const uint32_t *restrict video = p->video;
     for (uint32_t y = 0; y < p->v; y++, out += p->n) {
-        uint16_t empty = y < p->vs ? 2 * 8192 : 0;
-        fill(out, 0, p->hs, empty + 8192);
-        if (p->vbs <= y && y < p->vbe) {
-            fill(out, p->hs, p->bs, empty);
-            if (p->vds <= y && y < p->vde) {
-                fill(out, p->bs, p->ds, border);
-                shown(out + p->ds, video, count, d, table);
-                video += count;
-                fill(out, p->de, p->be, border);
-            } else fill(out, p->bs, p->be, border);
-            fill(out, p->be, p->n, empty);
-        } else fill(out, p->hs, p->n, empty);
+        if (y == 0 || y == p->vs || y == p->vbs || y == p->vbe) edges(p, y, border, line);
+        if (p->vds <= y && y < p->vde) {
+            memcpy(out, line, 2 * p->ds);
+            shown(out + p->ds, video, count, d, table);
+            video += count;
+            memcpy(out + p->de, line + p->de, 2 * (p->n - p->de));
+        } else memcpy(out, line, 2 * p->n);
         cover(p, y, out);
     }
 }
