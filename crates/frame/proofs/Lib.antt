@@ -1,6 +1,7 @@
 pub mod PixelPlaces
 pub mod CellCodes
 pub mod Words
+pub mod ByteCells
 pub mod Regions
 pub mod RasterWords
 pub mod Edges

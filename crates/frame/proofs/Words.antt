@@ -1,62 +1,24 @@
--- Cells of words, a byte at a time: what the table of bytes holds, and which of its cells the pixels of a word and of a list have.
+-- Cells of words, a byte at a time: which cells of the table of bytes the pixels of a word and of a list have.
 use Prim.Native.Nat.{ℕ, _+_, _*_, _-_, _/_, _%_, _^_, _<_, _≤_}
-use mathlib.Core.Path.{_≡_, refl, sym, ap, _∙_}
+use mathlib.Core.Path.{_≡_, refl, ap}
 use mathlib.Core.List.{List}
 use mathlib.Core.Logic.{inl, inr}
-use native.Mathlib.Nat.{mod-eq-of-lt, mod-lt, one-mul, mul-le-mul-right, div-one, sub-self, zero-mul, mul-zero, div-lt-iff-lt-mul}
+use native.Mathlib.Nat.{mod-lt, mul-le-mul-right, mul-zero, div-lt-iff-lt-mul}
 use native.Mathlib.Omega.{arith}
-use lib.Arith.{digits-div, digits-mod}
 use lib.ListN.{length, getD, replicate, length-replicate}
-use lib.Pow.{pow-pos, pow-mono, shr-shr}
+use lib.Pow.{shr-shr}
 use Rattle.buffers.specs.Painted.{painted}
 use Rattle.buffers.proofs.Paints.{Paints, paint-next, paint-as, paints-of}
 use Rattle.buffers.proofs.Split.{lt-or-le}
 use Rattle.registers.proofs.Accepted.{Depth}
 use Rattle.frame.specs.Pixel.{pixel}
 use Rattle.frame.specs.Lent.{Parts}
-use Rattle.frame.specs.Ink.{from, cellIn, byteInk, bytesInk, wordInk, wordsInk}
+use Rattle.frame.specs.Ink.{from, cellIn, wordInk, wordsInk}
 use Rattle.frame.proofs.PixelPlaces.{past-bytes, past-pixels, pixel-in}
-
--- 2 ^ d as the machine makes it.
-pub one-shifted : (d : ℕ) → d ≤ 8 → (1 * 2 ^ d) % 2 ^ 32 ≡ 2 ^ d
-one-shifted d h = rw (one-mul (2 ^ d)) (mod-eq-of-lt (omega (arith, pow-mono h)))
-
-pub low-bits : (x d : ℕ) → d ≤ 8 → x % ((1 * 2 ^ d) % 2 ^ 32) < 256
-low-bits x d h = rw (one-shifted d h) (omega (arith, mod-lt x (pow-pos d), pow-mono h))
-
--- One pixel of a byte, and the rest of the byte moved down.
-pub pixel-ink : (shades : List ℕ) (b d at k rest : ℕ) → d ≤ 8 → rest ≡ b / 2 ^ ((k - at) * d)
-    → getD shades (rest % ((1 * 2 ^ d) % 2 ^ 32)) 0 ≡ from at (byteInk shades b d) k
-unfolding from byteInk
-pixel-ink shades b d at k rest h e = rw (one-shifted d h, e)
-
-pub whole-byte : (b at d : ℕ) → b ≡ b / 2 ^ ((at - at) * d)
-whole-byte b at d = rw (sub-self at, zero-mul d) (sym (div-one b))
-
-pub next-from : (b at k d : ℕ) → at ≤ k → b / 2 ^ ((k - at) * d) / 2 ^ d ≡ b / 2 ^ ((k + 1 - at) * d)
-next-from b at k d h =
-    let e : (k - at) * d + d ≡ (k + 1 - at) * d = let n : k + 1 - at ≡ k - at + 1 = omega arith in rw n (omega arith) in
-    shr-shr b ((k - at) * d) d ∙ ap (λ (n : ℕ). b / 2 ^ n) e
 
 -- Part j of so many parts has room.
 pub part-room : (j parts count : ℕ) → j < parts → j * count + count ≤ parts * count
 part-room j parts count h = omega (arith, mul-le-mul-right count h)
-
--- The table of bytes: one byte more is painted.
-module _ (shades : List ℕ) (per d b k : ℕ) (start : k ≡ b * per) where
-  byte-same : (i : ℕ) → k ≤ i → i < k + per → from k (byteInk shades b d) i ≡ bytesInk shades per d i
-  unfolding from bytesInk
-  byte-same i p q =
-      let e : i ≡ b * per + (i - k) = omega arith in
-      let x : i - k < per = omega arith in
-      let at : i / per ≡ b = ap (λ (n : ℕ). n / per) e ∙ digits-div b x in
-      let low : i % per ≡ i - k = ap (λ (n : ℕ). n % per) e ∙ digits-mod b x in
-      rw (at, low)
-
-  pub byte-turn : (o p q : List ℕ) → k + per ≤ length o → Paints 0 o p 0 k (bytesInk shades per d)
-      → q ≡ painted p k (k + per) (from k (byteInk shades b d)) → Paints 0 o q 0 (k + per) (bytesInk shades per d)
-  byte-turn o p q room so-far e =
-      paint-next (omega arith) (omega arith) so-far (paint-as (bytesInk shades per d) byte-same (paints-of (rw (so-far .len) room) e))
 
 -- Pixel i of a word stands in one of its four bytes, and that byte's cells in the table.
 module _ (w i per : ℕ) (some : 0 < per) where

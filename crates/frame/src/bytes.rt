@@ -1,36 +1,39 @@
 // The table that the display is painted by, made once for each call: the cells of all pixels of each byte.
+use crate::put::put;
 ghost use mathlib.Core.Path.{_≡_};
-ghost use Prim.Native.Nat.{_+_, _*_, _/_, _≤_};
-ghost use lib.ListN.{length};
+ghost use Prim.Native.Nat.{_+_, _*_, _-_, _/_, _≤_, _<_};
+ghost use lib.ListN.{length, getD, replicate};
 ghost use Rattle.buffers.specs.Painted.{painted};
 ghost use Rattle.registers.proofs.Accepted.{Depth};
-ghost use Rattle.frame.specs.Ink.{from, byteInk, bytesInk};
+ghost use Rattle.frame.specs.Ink.{bytesInk};
 
-// The lowest `count` pixels of `byte`, `d` bits each.
-fn pixels(out: &mut [u16], at: usize, count: usize, byte: u32, d: u32, shades: &[u16; 256])
-    requires { ⌜ (at + count ≤ length (now out)) × (d ≤ 8) ⌝ }
-    ensures { λ _. ⌜ now (out .exit) ≡ painted (now (out .entry)) at (at + count) (from at (byteInk (now (shades .entry)) byte d)) ⌝ }
+// A cell, and behind it those from place `at` of the table on, `count` in all.
+fn behind(first: u16, table: &[u16], at: usize, count: usize) -> [u16; 8]
+    requires { ⌜ (0 < count) × (count ≤ 8) × (at + count ≤ length (now table)) ⌝ }
+    ensures { λ r. ⌜ r ≡ painted (replicate 8 first) 1 count (λ k. getD (now (table .entry)) (at + (k - 1)) 0) ⌝ }
 {
-    let m = 1u32 << d;
-    let end = at + count;
-    let mut rest = byte;
-    let mut k = at;
-    while k < end {
-        out[k] = shades[(rest % m) as usize];
-        rest = rest >> d;
-        k += 1;
+    let mut cells = [first; 8];
+    let mut j = 1;
+    while j < count {
+        cells[j] = table[at + (j - 1)];
+        j += 1;
     }
+    cells
 }
 
-// Those of all bytes, `per` to a byte.
+// Those of all bytes, `per` to a byte: of each the lowest pixel's, then those of the byte that is left without it.
 fn all(out: &mut [u16], per: usize, d: u32, shades: &[u16; 256])
-    requires { ⌜ (256 * per ≤ length (now out)) × (per ≤ 8) × (d ≤ 8) ⌝ }
+    requires { ⌜ (256 * per ≤ length (now out)) × (0 < per) × (per ≤ 8) × (0 < d) × (d ≤ 8) ⌝ }
     ensures { λ _. ⌜ now (out .exit) ≡ painted (now (out .entry)) 0 (256 * per) (bytesInk (now (shades .entry)) per d) ⌝ }
 {
-    let mut k = 0;
-    let mut b: u32 = 0;
+    put(out, 0, per, [shades[0]; 8]);
+    let m = 1u32 << d;
+    let mut k = per;
+    let mut b: u32 = 1;
     while b < 256 {
-        pixels(out, k, per, b, d, shades);
+        let first = shades[(b % m) as usize];
+        let cells = behind(first, out, (b >> d) as usize * per, per);
+        put(out, k, per, cells);
         k += per;
         b += 1;
     }

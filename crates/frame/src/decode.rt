@@ -1,11 +1,12 @@
 // Display words into cells, through a table that has the cells of all pixels of each byte.
+use crate::put::put;
 ghost use mathlib.Core.Path.{_≡_};
 ghost use Prim.Native.Nat.{_+_, _*_, _/_, _≤_, _<_};
 ghost use lib.ListN.{length, replicate};
 ghost use Rattle.buffers.specs.Painted.{painted};
 ghost use Rattle.registers.proofs.Accepted.{Depth};
 ghost use Rattle.frame.specs.Lent.{Parts};
-ghost use Rattle.frame.specs.Ink.{from, cellIn, wordInk, wordsInk};
+ghost use Rattle.frame.specs.Ink.{from, wordInk, wordsInk};
 
 // Pixel i of a word, `per` pixels to a byte.
 fn cell(table: &[u16; 2048], w: u32, per: usize, i: usize) -> u16
@@ -28,18 +29,6 @@ fn cells(table: &[u16; 2048], w: u32, per: usize, count: usize) -> [u16; 8]
         i += 1;
     }
     read
-}
-
-fn put(out: &mut [u16], at: usize, count: usize, cells: [u16; 8])
-    requires { ⌜ (count ≤ 8) × (at + count ≤ length (now out)) ⌝ }
-    ensures { λ _. ⌜ now (out .exit) ≡ painted (now (out .entry)) at (at + count) (from at (cellIn cells)) ⌝ }
-{
-    let end = at + count;
-    let mut k = at;
-    while k < end {
-        out[k] = cells[k - at];
-        k += 1;
-    }
 }
 
 // All pixels of one word: `parts` times those of `bytes` of its bytes.

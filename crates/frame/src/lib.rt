@@ -20,6 +20,7 @@ mod inks;
 mod judged;
 mod lines;
 mod plain;
+mod put;
 mod rows;
 mod units;
 

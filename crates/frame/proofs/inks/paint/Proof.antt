@@ -20,7 +20,8 @@ same-length : tie.Need-same-length
 same-length c = search needs
 
 returns : tie.Need-returns
-returns c = rows-law (c .before .before .before .before .before .before .before .before .before .before .before .before .before .before .args .g) (c .before .before .before .before .before .before .before .before .before .before .before .before .before .before .args .s) _ _ _ _ _ _ _ (c .before .before .before .before .before .before .before .before .before .before .before .before .before .before .pre .0 .accepted .depth) (c .before .before .before .before .before .before .pens .ensures) (c .before .before .before .before .before .before .before .before .before .before .shades .ensures) (c .before .before .before .before .before .before .before .bytes .ensures) _ _ (c .before .before .before .before .before .before .before .before .before .before .before .before .before .before .pre .0 .room) (c .before .before .rows .ensures)
+returns c = let s = c .before .before .before .before .before .before .before .before .before .before .before .before .before .before in
+    rows-law (s .args .g) (s .args .s) _ _ _ _ _ _ _ (s .pre .0 .accepted .depth) (c .before .before .before .before .before .before .pens .ensures) (c .before .before .before .before .before .before .before .before .before .before .shades .ensures) (c .before .before .before .before .before .before .before .bytes .ensures) _ _ (s .pre .0 .room) (c .before .before .rows .ensures)
 
 pub paint-spec : {M : Type 1} → statement M
 paint-spec =

@@ -21,7 +21,8 @@ returns-2 : tie.Need-returns-2
 returns-2 c = (simp (sym (c .before .before .before .words-wrong .ensures) ∙ c .before .before .if1 .left, lt-ltb _ _ (rw (c .before .frame-cells .ensures) at (c .if2 .taken))), refl)
 
 paint-requires : tie.Need-paint-requires
-paint-requires c κs = (lent-by (c .before .before .before .before .before .before .before .before .pre) (rw (sub-zero (c .before .before .before .before .before .before .before .before .args .s .v .0), ← c .before .before .frame-cells .ensures) (c .before .if2 .left)) (sym (c .before .before .before .before .words-wrong .ensures) ∙ c .before .before .before .if1 .left), omega arith)
+paint-requires c κs = let s = c .before .before .before .before .before .before .before .before in
+    (lent-by (s .pre) (rw (sub-zero (s .args .s .v .0), ← c .before .before .frame-cells .ensures) (c .before .if2 .left)) (sym (c .before .before .before .before .words-wrong .ensures) ∙ c .before .before .before .if1 .left), omega arith)
 
 same-length : tie.Need-same-length
 same-length c = search needs

@@ -26,7 +26,8 @@ add-t17 : tie.Need-add-t17
 add-t17 c = search needs
 
 paint-requires : tie.Need-paint-requires
-paint-requires c κs = (rw (one-raster (c .before .before .before .before .before .before .before .before .before .before .before .before .args .s .n .0) (c .before .before .before .before .before .before .before .before .before .before .before .before .args .y .0)) (lent-by (c .before .before .before .before .before .before .before .before .before .before .before .before .pre) (rw (c .before .before .before .wide .ensures) at (c .before .before .if3 .left)) (sym (c .before .before .before .before .before .before .before .before .words-wrong .ensures) ∙ c .before .before .before .before .before .before .before .if1 .left)), omega arith)
+paint-requires c κs = let s = c .before .before .before .before .before .before .before .before .before .before .before .before in
+    (rw (one-raster (s .args .s .n .0) (s .args .y .0)) (lent-by (s .pre) (rw (c .before .before .before .wide .ensures) at (c .before .before .if3 .left)) (sym (c .before .before .before .before .before .before .before .before .words-wrong .ensures) ∙ c .before .before .before .before .before .before .before .if1 .left)), omega arith)
 
 same-length : tie.Need-same-length
 same-length c = search needs

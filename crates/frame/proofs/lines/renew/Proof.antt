@@ -11,7 +11,8 @@ edges-requires : tie.Need-edges-requires
 edges-requires c κs = search needs
 
 returns : tie.Need-returns
-returns c = edged-line (c .before .before .before .before .args .s) (c .before .before .before .before .pre .0) _ _ _ (search needs) _ (c .edges .ensures)
+returns c = let s = c .before .before .before .before in
+    edged-line (s .args .s) (s .pre .0) _ _ _ (search needs) _ (c .edges .ensures)
 
 returns-2 : tie.Need-returns-2
 returns-2 c = c .before .before .pre .1 (sym (c .before .is-anew .ensures) ∙ c .if1 .left)

@@ -39,13 +39,17 @@ loop-less : tie.Need-loop-less Inv-loop μ-loop
 loop-less c = search needs
 
 loop-again : tie.Need-loop-again Inv-loop μ-loop
-loop-again c = (omega arith, omega arith, copy-more (c .before .before .before .args .at) (c .before .before .loop .k) (c .before .before .before .args .a) _ (omega arith) (omega (arith, c .before .before .before .pre .2)) (c .before .before .loop .inv .2))
+loop-again c = let s = c .before .before .before in
+    let l = c .before .before .loop in
+    (omega arith, omega arith, copy-more (s .args .at) (l .k) (s .args .a) _ (omega arith) (omega (arith, s .pre .2)) (l .inv .2))
 
 same-length : tie.Need-same-length Inv-loop μ-loop
 same-length c = c .before .loop .inv .2 .len
 
 returns : tie.Need-returns Inv-loop μ-loop
-returns c = let e : c .before .loop .k ≡ c .before .before .args .b = omega arith in paints-painted (c .before .before .pre .2) (rw e at (c .before .loop .inv .2))
+returns c = let s = c .before .before in
+    let l = c .before .loop in
+    let e : l .k ≡ s .args .b = omega arith in paints-painted (s .pre .2) (rw e at (l .inv .2))
 
 pub copy-spec : {M : Type 1} → statement M
 copy-spec =

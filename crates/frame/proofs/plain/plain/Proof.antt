@@ -30,7 +30,8 @@ same-length : tie.Need-same-length
 same-length c = search needs
 
 returns : tie.Need-returns
-returns c = displayed-law (c .before .before .before .before .before .before .before .before .before .before .before .before .before .before .before .before .before .before .before .args .s) (c .before .before .before .before .before .before .before .before .before .before .before .before .before .before .before .before .before .before .before .pre .accepted) _ _ _ _ _ _ _ _ _ _ _ _ (c .before .before .before .before .before .before .before .before .before .before .before .before .before .before .before .before .before .before .before .pre .room) (c .before .before .before .before .before .before .before .before .before .before .before .before .wide2 .ensures) (c .before .before .before .wide3 .ensures) (c .before .before .before .before .before .before .before .before .before .before .before .before .before .before .before .before .wide .ensures) (sym (c .before .before .before .before .before .before .before .before .before .before .before .before .before .before .before .displayed .ensures) ∙ c .before .before .before .before .before .before .before .before .before .before .before .before .before .before .if1 .taken) (c .before .before .before .before .before .before .before .before .before .before .before .copy .ensures) (c .before .before .before .before .before .before .before .display .ensures) (c .before .before .copy2 .ensures)
+returns c = let s = c .before .before .before .before .before .before .before .before .before .before .before .before .before .before .before .before .before .before .before in
+    displayed-law (s .args .s) (s .pre .accepted) _ _ _ _ _ _ _ _ _ _ _ _ (s .pre .room) (c .before .before .before .before .before .before .before .before .before .before .before .before .wide2 .ensures) (c .before .before .before .wide3 .ensures) (c .before .before .before .before .before .before .before .before .before .before .before .before .before .before .before .before .wide .ensures) (sym (c .before .before .before .before .before .before .before .before .before .before .before .before .before .before .before .displayed .ensures) ∙ c .before .before .before .before .before .before .before .before .before .before .before .before .before .before .if1 .taken) (c .before .before .before .before .before .before .before .before .before .before .before .copy .ensures) (c .before .before .before .before .before .before .before .display .ensures) (c .before .before .copy2 .ensures)
 
 copy-requires-3 : tie.Need-copy-requires-3
 copy-requires-3 c κs = search needs
@@ -39,7 +40,8 @@ same-length-2 : tie.Need-same-length-2
 same-length-2 c = search needs
 
 returns-2 : tie.Need-returns-2
-returns-2 c = undisplayed-law (c .before .before .before .before .before .before .before .before .before .args .s) (c .before .before .before .before .before .before .before .before .before .pre .accepted) _ _ _ _ _ _ _ _ (c .before .before .before .before .before .before .before .before .before .pre .room) (c .before .before .before .before .before .before .wide .ensures) (sym (c .before .before .before .before .before .displayed .ensures) ∙ c .before .before .before .before .if1 .left) (c .before .before .copy3 .ensures)
+returns-2 c = let s = c .before .before .before .before .before .before .before .before .before in
+    undisplayed-law (s .args .s) (s .pre .accepted) _ _ _ _ _ _ _ _ (s .pre .room) (c .before .before .before .before .before .before .wide .ensures) (sym (c .before .before .before .before .before .displayed .ensures) ∙ c .before .before .before .before .if1 .left) (c .before .before .copy3 .ensures)
 
 pub plain-spec : {M : Type 1} → statement M
 plain-spec =

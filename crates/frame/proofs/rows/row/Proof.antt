@@ -13,7 +13,8 @@ same-length : tie.Need-same-length
 same-length c = search needs
 
 returns : tie.Need-returns
-returns c = row-law (c .before .before .before .before .before .before .before .before .before .before .before .args .s) (c .before .before .before .before .before .before .before .before .before .before .before .pre .0 .accepted) _ _ _ _ _ _ _ _ _ _ (c .before .before .before .before .before .before .before .before .before .before .before .pre .0 .room) (c .before .before .before .before .before .before .before .before .before .before .before .pre .1) (c .before .before .before .before .before .before .plain .ensures) (c .before .before .cover .ensures)
+returns c = let s = c .before .before .before .before .before .before .before .before .before .before .before in
+    row-law (s .args .s) (s .pre .0 .accepted) _ _ _ _ _ _ _ _ _ _ (s .pre .0 .room) (s .pre .1) (c .before .before .before .before .before .before .plain .ensures) (c .before .before .cover .ensures)
 
 pub row-spec : {M : Type 1} → statement M
 row-spec = tie.close (tie.spec plain-requires cover-requires same-length returns)

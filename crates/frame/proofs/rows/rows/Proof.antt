@@ -24,16 +24,21 @@ wide-requires : tie.Need-wide-requires Inv-loop μ-loop
 wide-requires c κs = search needs
 
 loop-holds : tie.Need-loop-holds Inv-loop μ-loop
-loop-holds c = (omega arith, c .before .before .before .before .pre .1, no-place (c .before .before .before .before .args .first .0) (c .before .before .before .before .args .s .n .0), paint-none _ _, first-edged (c .before .before .before .before .args .s) _ _ (c .before .before .before .before .args .first .0))
+loop-holds c = let s = c .before .before .before .before in
+    (omega arith, s .pre .1, no-place (s .args .first .0) (s .args .s .n .0), paint-none _ _, first-edged (s .args .s) _ _ (s .args .first .0))
 
 renew-requires : tie.Need-renew-requires Inv-loop μ-loop
 renew-requires c κs = (c .before .before .before .before .before .before .before .before .pre .0 .accepted, c .before .before .before .loop .inv .4)
 
 row-requires : tie.Need-row-requires Inv-loop μ-loop
-row-requires c κs = (lent-row (c .before .before .before .before .before .before .before .before .before .before .before .args .first .0) (c .before .before .before .before .before .before .before .before .before .before .before .args .end .0) (c .before .before .before .before .before .before .loop .y) _ (c .before .before .before .before .before .before .before .before .before .before .before .pre .0) (c .before .before .before .before .before .before .loop .inv .3 .len) (c .before .before .before .before .before .before .loop .inv .0) (c .before .before .before .before .if1 .taken) (c .before .before .before .before .before .before .loop .inv .2), c .before .before .renew .ensures)
+row-requires c κs = let s = c .before .before .before .before .before .before .before .before .before .before .before in
+    let l = c .before .before .before .before .before .before .loop in
+    (lent-row (s .args .first .0) (s .args .end .0) (l .y) _ (s .pre .0) (l .inv .3 .len) (l .inv .0) (c .before .before .before .before .if1 .taken) (l .inv .2), c .before .before .renew .ensures)
 
 add-at : tie.Need-add-at Inv-loop μ-loop
-add-at c = omega (arith, c .before .before .before .before .before .before .before .before .before .before .wide .ensures, c .before .before .before .before .before .before .before .before .before .loop .inv .2, c .before .before .before .before .before .before .before .before .before .before .before .before .before .before .pre .0 .room, row-room (c .before .before .before .before .before .before .before .before .before .before .before .before .before .before .args .s) (c .before .before .before .before .before .before .before .before .before .before .before .before .before .before .args .first .0) (c .before .before .before .before .before .before .before .before .before .before .before .before .before .before .args .end .0) (c .before .before .before .before .before .before .before .before .before .loop .y) (c .before .before .before .before .before .before .before .before .before .loop .inv .0) (c .before .before .before .before .before .before .before .if1 .taken))
+add-at c = let s = c .before .before .before .before .before .before .before .before .before .before .before .before .before .before in
+    let l = c .before .before .before .before .before .before .before .before .before .loop in
+    omega (arith, c .before .before .before .before .before .before .before .before .before .before .wide .ensures, l .inv .2, s .pre .0 .room, row-room (s .args .s) (s .args .first .0) (s .args .end .0) (l .y) (l .inv .0) (c .before .before .before .before .before .before .before .if1 .taken))
 
 add-y : tie.Need-add-y Inv-loop μ-loop
 add-y c = search needs
@@ -42,13 +47,18 @@ loop-less : tie.Need-loop-less Inv-loop μ-loop
 loop-less c = search needs
 
 loop-again : tie.Need-loop-again Inv-loop μ-loop
-loop-again c = (omega (arith, c .before .before .before .before .before .before .before .before .before .loop .inv .0), omega (arith, c .before .before .before .before .before .before .before .if1 .taken), rw (c .before .before .before .before .before .before .before .before .before .before .wide .ensures) (next-place (c .before .before .before .before .before .before .before .before .before .before .before .before .before .before .args .first .0) (c .before .before .before .before .before .before .before .before .before .loop .y) (c .before .before .before .before .before .before .before .before .before .loop .at) (c .before .before .before .before .before .before .before .before .before .before .before .before .before .before .args .s .n .0) (c .before .before .before .before .before .before .before .before .before .loop .inv .0) (c .before .before .before .before .before .before .before .before .before .loop .inv .2)), rw (c .before .before .before .before .before .before .before .before .before .before .wide .ensures) (row-turn (c .before .before .before .before .before .before .before .before .before .before .before .before .before .before .args .s) _ _ _ _ (c .before .before .before .before .before .before .before .before .before .before .before .before .before .before .args .first .0) (c .before .before .before .before .before .before .before .before .before .loop .y) (c .before .before .before .before .before .before .before .before .before .loop .inv .0) (c .before .before .before .before .before .before .before .before .before .loop .at) (c .before .before .before .before .before .before .before .before .before .loop .inv .2) _ _ _ (omega (arith, c .before .before .before .before .before .before .before .before .before .loop .inv .2, c .before .before .before .before .before .before .before .before .before .before .before .before .before .before .pre .0 .room, row-room (c .before .before .before .before .before .before .before .before .before .before .before .before .before .before .args .s) (c .before .before .before .before .before .before .before .before .before .before .before .before .before .before .args .first .0) (c .before .before .before .before .before .before .before .before .before .before .before .before .before .before .args .end .0) (c .before .before .before .before .before .before .before .before .before .loop .y) (c .before .before .before .before .before .before .before .before .before .loop .inv .0) (c .before .before .before .before .before .before .before .if1 .taken))) (c .before .before .before .before .before .before .before .before .before .loop .inv .3) (c .before .before .row .ensures)), λ e. edged-next (c .before .before .before .before .before .before .before .before .before .before .before .before .before .before .args .s) _ (c .before .before .before .before .before .before .before .before .before .before .before .before .before .before .args .first .0) (c .before .before .before .before .before .before .before .before .before .loop .y) e _ (c .before .before .before .before .before .renew .ensures))
+loop-again c = let s = c .before .before .before .before .before .before .before .before .before .before .before .before .before .before in
+    let l = c .before .before .before .before .before .before .before .before .before .loop in
+    (omega (arith, l .inv .0), omega (arith, c .before .before .before .before .before .before .before .if1 .taken), rw (c .before .before .before .before .before .before .before .before .before .before .wide .ensures) (next-place (s .args .first .0) (l .y) (l .at) (s .args .s .n .0) (l .inv .0) (l .inv .2)), rw (c .before .before .before .before .before .before .before .before .before .before .wide .ensures) (row-turn (s .args .s) _ _ _ _ (s .args .first .0) (l .y) (l .inv .0) (l .at) (l .inv .2) _ _ _ (omega (arith, l .inv .2, s .pre .0 .room, row-room (s .args .s) (s .args .first .0) (s .args .end .0) (l .y) (l .inv .0) (c .before .before .before .before .before .before .before .if1 .taken))) (l .inv .3) (c .before .before .row .ensures)), λ e. edged-next (s .args .s) _ (s .args .first .0) (l .y) e _ (c .before .before .before .before .before .renew .ensures))
 
 same-length : tie.Need-same-length Inv-loop μ-loop
 same-length c = c .before .before .loop .inv .3 .len
 
 returns : tie.Need-returns Inv-loop μ-loop
-returns c = let y : c .before .before .loop .y ≡ c .before .before .before .before .before .before .before .args .end .0 = omega (arith, c .before .before .loop .inv .1, c .if1 .left) in let e : c .before .before .loop .at ≡ c .before .before .before .before .before .before .before .args .s .n .0 * (c .before .before .before .before .before .before .before .args .end .0 - c .before .before .before .before .before .before .before .args .first .0) = c .before .before .loop .inv .2 ∙ ap (λ (k : ℕ). (k - c .before .before .before .before .before .before .before .args .first .0) * c .before .before .before .before .before .before .before .args .s .n .0) y ∙ mul-comm _ _ in paints-painted (c .before .before .before .before .before .before .before .pre .0 .room) (rw e at (c .before .before .loop .inv .3))
+returns c = let s = c .before .before .before .before .before .before .before in
+    let l = c .before .before .loop in
+    let y : l .y ≡ s .args .end .0 = omega (arith, l .inv .1, c .if1 .left) in
+    let e : l .at ≡ s .args .s .n .0 * (s .args .end .0 - s .args .first .0) = l .inv .2 ∙ ap (λ (k : ℕ). (k - s .args .first .0) * s .args .s .n .0) y ∙ mul-comm _ _ in paints-painted (s .pre .0 .room) (rw e at (l .inv .3))
 
 pub rows-spec : {M : Type 1} → statement M
 rows-spec =

@@ -5,8 +5,8 @@ use Rattle.frame.specs.Ink.{from, cellIn}
 use Prim.Native.Nat.{_+_, _-_, _≤_}
 use mathlib.Core.Path.{_≡_}
 use Rattle.buffers.proofs.Paints.{Paints, paint-none, paint-more, paints-painted}
-use Rattle.frame.proofs.decode.put.Statement.{statement}
-use Rattle.frame.proofs.decode.put.Tie as tie
+use Rattle.frame.proofs.put.put.Statement.{statement}
+use Rattle.frame.proofs.put.put.Tie as tie
 
 abbrev Inv-loop : tie.InvT-loop
 Inv-loop out₀ at count cells end k₀ out k = (at ≤ k) × (k ≤ end) × Paints 0 out₀ out at k (from at (cellIn cells))
