@@ -2,6 +2,7 @@ pub mod PixelPlaces
 pub mod CellCodes
 pub mod Words
 pub mod ByteCells
+pub mod QuadCells
 pub mod Regions
 pub mod RasterWords
 pub mod Edges

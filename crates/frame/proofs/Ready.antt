@@ -23,11 +23,13 @@ use Rattle.registers.proofs.Words.{depth-most}
 use Rattle.registers.specs.declared.record.Registers.{Registers}
 use Rattle.registers.specs.declared.setting.Setting.{Setting}
 use Rattle.colours.specs.Colour.{colourOf}
+use Rattle.colours.proofs.Bounds.{colour-below}
 use Rattle.frame.specs.Pixel.{position, logical, cursorPair}
 use Rattle.frame.specs.Cell.{inDisplay, inBorder, inCursor, plainCode, covered, code, cell}
 use Rattle.frame.specs.Ink.{byteInk, bytesInk, wordsInk, displayInk, plainInk, ink, rowsInk, rowsCell, shade, pensOf}
 use Rattle.frame.proofs.PixelPlaces.{per-least, per-most, pixel-byte}
 use Rattle.frame.proofs.Words.{part-room}
+use Rattle.frame.specs.Lent.{Cells}
 use Rattle.frame.specs.Frame.{cells, frameCell, rasterCell}
 
 -- How many logical pixels there are, as the machine reckons it.
@@ -119,6 +121,22 @@ bytes-right g d shades table depth right e b j h l =
     paints-of {d = 0} {l = replicate 2048 0} {f = bytesInk shades (8 / d) d} (omega (arith, per-most depth, length-replicate {A = ℕ} 2048 0)) e
     .on (b * (8 / d) + j) (omega arith) (omega (arith, part-room b 256 (8 / d) h))
     ∙ rw (digits-div b l, digits-mod b l) (right (b / 2 ^ (j * d) % 2 ^ d) (mod-lt _ (pow-pos d)))
+
+-- A shade has 16 bits, and so have the cells that depth 8 joins.
+shade-small : (g : Registers) (d p : ℕ) → shade g d p < 65536
+unfolding shade
+shade-small g d p = omega (arith, colour-below g d p)
+
+pub cells-right : (g : Registers) (d : ℕ) (shades table : List ℕ) → Depth d → shades ≡ painted (replicate 256 0) 0 (2 ^ d) (shade g d)
+    → table ≡ painted (replicate 2048 0) 0 (256 * (8 / d)) (bytesInk shades (8 / d) d) → d ≡ 8 → Cells table
+cells-right g d shades table depth shades-is table-is eight =
+    let right = bytes-right g d shades table depth (shades-right g d shades (depth-most depth) shades-is) table-is in
+    record { small = λ b h. small b (rw eight at (right b 0 h (per-least depth))) }
+  where
+    small : (b : ℕ) → getD table (b * (8 / 8) + 0) 0 ≡ shade g 8 (b / 2 ^ (0 * 8) % 2 ^ 8) → getD table b 0 < 65536
+    small b e =
+        let k : b * (8 / 8) + 0 ≡ b = omega arith in
+        omega (arith, rw k at e, shade-small g 8 (b / 2 ^ (0 * 8) % 2 ^ 8))
 
 module _ (g : Registers) (s : Setting) (pens shades table video cursor o p : List ℕ) (depth : Depth (s .depth))
     (pens-is : pens ≡ pensOf g) (shades-is : shades ≡ painted (replicate 256 0) 0 (2 ^ s .depth) (shade g (s .depth)))

@@ -36,6 +36,13 @@ wordInk table w per i = getD table (w / 2 ^ (8 * (i / per)) % 256 * per + i % pe
 unfoldable pub wordsInk : List ℕ → List ℕ → ℕ → ℕ → ℕ
 wordsInk table ws per i = getD table (byteOf ws (i / per) * per + i % per) 0
 
+-- The cell of byte b, moved up by so many bits; and cell j of four.
+unfoldable pub movedInk : List ℕ → ℕ → ℕ → ℕ
+movedInk table bits b = getD table b 0 * 2 ^ bits
+
+unfoldable pub quadCell : ℕ → ℕ → ℕ
+quadCell x j = x / 2 ^ (16 * j) % 65536
+
 -- Position x of raster y where it is displayed.
 unfoldable pub displayInk : Setting → List ℕ → List ℕ → ℕ → ℕ → ℕ
 displayInk s table video y x = wordsInk table video (8 / s .depth) (position s x y)

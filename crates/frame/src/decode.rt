@@ -1,11 +1,12 @@
 // Display words into cells, through a table that has the cells of all pixels of each byte.
 use crate::put::put;
+use crate::quads::quad_words;
 ghost use mathlib.Core.Path.{_≡_};
 ghost use Prim.Native.Nat.{_+_, _*_, _/_, _≤_, _<_};
 ghost use lib.ListN.{length, replicate};
 ghost use Rattle.buffers.specs.Painted.{painted};
 ghost use Rattle.registers.proofs.Accepted.{Depth};
-ghost use Rattle.frame.specs.Lent.{Parts};
+ghost use Rattle.frame.specs.Lent.{Parts, Tables};
 ghost use Rattle.frame.specs.Ink.{from, wordInk, wordsInk};
 
 // Pixel i of a word, `per` pixels to a byte.
@@ -82,15 +83,22 @@ fn words(
     }
 }
 
-// The same by depth: each depth's numbers are literals, so that each has a loop of its own in the machine's code. Eight cells
-// are stored at once; at depth 8, where each is read by itself, joining them would cost more than it spares.
-pub fn shown(out: &mut [u16], at: usize, video: &[u32], d: u8, table: &[u16; 2048])
-    requires { ⌜ (at + length (now video) * (32 / d) ≤ length (now out)) × Depth d ⌝ }
+// The same by depth: each depth's numbers are literals, so that each has a loop of its own in the machine's code, and eight cells
+// are stored at once; at depth 8, where each is read by itself, four.
+pub fn shown(
+    out: &mut [u16],
+    at: usize,
+    video: &[u32],
+    d: u8,
+    table: &[u16; 2048],
+    quads: &[u64; 1024],
+)
+    requires { ⌜ (at + length (now video) * (32 / d) ≤ length (now out)) × Depth d × Tables d (now table) (now quads) ⌝ }
     ensures { λ _. ⌜ now (out .exit) ≡ painted (now (out .entry)) at (at + length (now (video .entry)) * (32 / d))
         (from at (wordsInk (now (table .entry)) (now (video .entry)) (8 / d))) ⌝ }
 {
     if d == 8 {
-        words(out, at, video, 1, 1, 4, table);
+        quad_words(out, at, video, quads);
         return;
     }
     if d == 4 {

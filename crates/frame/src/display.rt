@@ -9,7 +9,7 @@ ghost use Rattle.buffers.specs.Painted.{painted};
 ghost use Rattle.registers.specs.Setting.{rasterWords};
 ghost use Rattle.frame.specs.Pixel.{firstWord};
 ghost use Rattle.registers.proofs.Accepted.{Accepted};
-ghost use Rattle.frame.specs.Lent.{Raster};
+ghost use Rattle.frame.specs.Lent.{Raster, Tables};
 ghost use Rattle.frame.specs.Ink.{from, displayInk};
 
 // How many words a displayed raster has.
@@ -34,13 +34,21 @@ pub fn display(
     s: Setting,
     y: Rasters,
     table: &[u16; 2048],
+    quads: &[u64; 1024],
     video: &[u32],
 )
-    requires { ⌜ Raster s at (now video) (now out) × (s .vds .0 ≤ y .0) × (y .0 < s .vde .0) ⌝ }
+    requires { ⌜ Raster s at (now video) (now out) × (s .vds .0 ≤ y .0) × (y .0 < s .vde .0) × Tables (s .depth) (now table) (now quads) ⌝ }
     ensures { λ _. ⌜ now (out .exit) ≡ painted (now (out .entry)) (at + s .ds .0) (at + s .de .0)
         (from at (displayInk s (now (table .entry)) (now (video .entry)) (y .0))) ⌝ }
 {
     let first = first_word(s, y);
     let last = first + raster_words(s);
-    shown(out, at + wide(s.ds), &video[first..last], s.depth, table);
+    shown(
+        out,
+        at + wide(s.ds),
+        &video[first..last],
+        s.depth,
+        table,
+        quads,
+    );
 }

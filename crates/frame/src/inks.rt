@@ -1,5 +1,6 @@
 // Cells made ready, once for each call: a display cell for each logical pixel, and the cells of border and cursor.
 use crate::bytes::bytes;
+use crate::quads::quads;
 use crate::rows::rows;
 use colours::colour;
 use registers::record::Registers;
@@ -53,6 +54,8 @@ pub fn paint(
     let cells = shades(g, s.depth);
     let mut table = [0u16; 2048];
     bytes(&mut table, &cells, s.depth);
+    let mut four = [0u64; 1024];
+    quads(&mut four, &table, s.depth);
     let inks = pens(g);
-    rows(out, s, first, end, &inks, &table, video, cursor);
+    rows(out, s, first, end, &inks, &table, &four, video, cursor);
 }

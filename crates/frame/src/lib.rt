@@ -21,6 +21,7 @@ mod judged;
 mod lines;
 mod plain;
 mod put;
+mod quads;
 mod rows;
 mod units;
 

@@ -8,7 +8,7 @@ ghost use mathlib.Core.Path.{_≡_};
 ghost use Prim.Native.Nat.{_+_, _≤_};
 ghost use lib.ListN.{length};
 ghost use Rattle.buffers.specs.Painted.{painted};
-ghost use Rattle.frame.specs.Lent.{Raster};
+ghost use Rattle.frame.specs.Lent.{Raster, Tables};
 ghost use Rattle.frame.specs.Ink.{from, cellIn, linedInk};
 
 // Positions a up to b of a line, into the raster at place `at`.
@@ -30,16 +30,17 @@ pub fn plain(
     y: Rasters,
     line: &[u16; 2048],
     table: &[u16; 2048],
+    quads: &[u64; 1024],
     video: &[u32],
 )
-    requires { ⌜ Raster s at (now video) (now out) ⌝ }
+    requires { ⌜ Raster s at (now video) (now out) × Tables (s .depth) (now table) (now quads) ⌝ }
     ensures { λ _. ⌜ now (out .exit) ≡ painted (now (out .entry)) at (at + s .n .0)
         (from at (linedInk s (now (line .entry)) (now (table .entry)) (now (video .entry)) (y .0))) ⌝ }
 {
     let n = wide(s.n);
     if displayed(s, y) {
         copy(out, at, line, 0, wide(s.ds));
-        display(out, at, s, y, table, video);
+        display(out, at, s, y, table, quads, video);
         copy(out, at, line, wide(s.de), n);
         return;
     }

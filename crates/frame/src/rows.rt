@@ -8,7 +8,7 @@ use registers::units::Rasters;
 ghost use mathlib.Core.Path.{_≡_};
 ghost use Prim.Native.Nat.{_+_, _*_, _-_, _≤_};
 ghost use Rattle.buffers.specs.Painted.{painted};
-ghost use Rattle.frame.specs.Lent.{Lent, Edged};
+ghost use Rattle.frame.specs.Lent.{Lent, Edged, Tables};
 ghost use Rattle.frame.specs.Ink.{from, ink, rowsInk};
 
 fn row(
@@ -19,14 +19,16 @@ fn row(
     pens: &[u16; 4],
     line: &[u16; 2048],
     table: &[u16; 2048],
+    quads: &[u64; 1024],
     video: &[u32],
     cursor: &[u32],
 )
-    requires { ⌜ Lent s (at + s .n .0) (now video) (now cursor) (now out) × Edged s (now pens) (y .0) (now line) ⌝ }
+    requires { ⌜ Lent s (at + s .n .0) (now video) (now cursor) (now out) × Edged s (now pens) (y .0) (now line)
+        × Tables (s .depth) (now table) (now quads) ⌝ }
     ensures { λ _. ⌜ now (out .exit) ≡ painted (now (out .entry)) at (at + s .n .0)
         (from at (ink s (now (pens .entry)) (now (table .entry)) (now (video .entry)) (now (cursor .entry)) (y .0))) ⌝ }
 {
-    plain(out, at, s, y, line, table, video);
+    plain(out, at, s, y, line, table, quads, video);
     cover(out, at, s, y, pens, cursor);
 }
 
@@ -38,10 +40,12 @@ pub fn rows(
     end: Rasters,
     pens: &[u16; 4],
     table: &[u16; 2048],
+    quads: &[u64; 1024],
     video: &[u32],
     cursor: &[u32],
 )
-    requires { ⌜ Lent s (s .n .0 * (end .0 - first .0)) (now video) (now cursor) (now out) × (first .0 ≤ end .0) ⌝ }
+    requires { ⌜ Lent s (s .n .0 * (end .0 - first .0)) (now video) (now cursor) (now out) × (first .0 ≤ end .0)
+        × Tables (s .depth) (now table) (now quads) ⌝ }
     ensures { λ _. ⌜ now (out .exit) ≡ painted (now (out .entry)) 0 (s .n .0 * (end .0 - first .0))
         (rowsInk s (now (pens .entry)) (now (table .entry)) (now (video .entry)) (now (cursor .entry)) (first .0)) ⌝ }
 {
@@ -51,7 +55,18 @@ pub fn rows(
     let mut y = first.0;
     while y < end.0 {
         renew(&mut line, s, first, Rasters(y), pens);
-        row(out, at, s, Rasters(y), pens, &line, table, video, cursor);
+        row(
+            out,
+            at,
+            s,
+            Rasters(y),
+            pens,
+            &line,
+            table,
+            quads,
+            video,
+            cursor,
+        );
         at += n;
         y += 1;
     }

@@ -13,7 +13,8 @@ raster-words-requires : tie.Need-raster-words-requires
 raster-words-requires c κs = search needs
 
 add-last : tie.Need-add-last
-add-last c = omega (arith, c .before .first-word .ensures, c .raster-words .ensures, words-lie (c .before .before .before .before .args .y .0) (c .before .before .before .before .pre .0) (c .before .before .before .before .pre .1) (c .before .before .before .before .pre .2))
+add-last c = let s = c .before .before .before .before in
+    omega (arith, c .before .first-word .ensures, c .raster-words .ensures, words-lie (s .args .y .0) (s .pre .0) (s .pre .1) (s .pre .2))
 
 wide-requires : tie.Need-wide-requires
 wide-requires c κs = search needs
@@ -22,7 +23,8 @@ add-shown : tie.Need-add-shown
 add-shown c = search needs
 
 mul-shown : tie.Need-mul-shown
-mul-shown c = omega (arith, c .before .before .before .first-word .ensures, c .before .before .raster-words .ensures, words-lie (c .before .before .before .before .before .before .args .y .0) (c .before .before .before .before .before .before .pre .0) (c .before .before .before .before .before .before .pre .1) (c .before .before .before .before .before .before .pre .2))
+mul-shown c = let s = c .before .before .before .before .before .before in
+    omega (arith, c .before .before .before .first-word .ensures, c .before .before .raster-words .ensures, words-lie (s .args .y .0) (s .pre .0) (s .pre .1) (s .pre .2))
 
 sub-shown : tie.Need-sub-shown
 sub-shown c = search needs
@@ -31,11 +33,12 @@ part-shown-start : tie.Need-part-shown-start
 part-shown-start c = search needs
 
 part-shown-end : tie.Need-part-shown-end
-part-shown-end c = omega (arith, c .before .before .before .first-word .ensures, c .before .before .raster-words .ensures, words-lie (c .before .before .before .before .before .before .args .y .0) (c .before .before .before .before .before .before .pre .0) (c .before .before .before .before .before .before .pre .1) (c .before .before .before .before .before .before .pre .2))
+part-shown-end c = let s = c .before .before .before .before .before .before in
+    omega (arith, c .before .before .before .first-word .ensures, c .before .before .raster-words .ensures, words-lie (s .args .y .0) (s .pre .0) (s .pre .1) (s .pre .2))
 
 shown-requires : tie.Need-shown-requires
 shown-requires c κs = let s = c .before .before .before .before .before .before .before in
-    (shown-room (s .args .s) (s .pre .0 .accepted) (s .args .video .now) (s .args .out .now) _ _ _ _ _ (s .pre .0 .room) (c .before .wide .ensures) (c .before .before .before .before .first-word .ensures) (ap (λ (n : ℕ). c .before .before .before .before .first-word .result + n) (c .before .before .before .raster-words .ensures)) (words-lie (s .args .y .0) (s .pre .0) (s .pre .1) (s .pre .2)), s .pre .0 .accepted .depth)
+    (shown-room (s .args .s) (s .pre .0 .accepted) (s .args .video .now) (s .args .out .now) _ _ _ _ _ (s .pre .0 .room) (c .before .wide .ensures) (c .before .before .before .before .first-word .ensures) (ap (λ (n : ℕ). c .before .before .before .before .first-word .result + n) (c .before .before .before .raster-words .ensures)) (words-lie (s .args .y .0) (s .pre .0) (s .pre .1) (s .pre .2)), s .pre .0 .accepted .depth, s .pre .3)
 
 same-length : tie.Need-same-length
 same-length c = search needs

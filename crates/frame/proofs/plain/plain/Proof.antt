@@ -18,7 +18,8 @@ copy-requires : tie.Need-copy-requires
 copy-requires c κs = search needs
 
 display-requires : tie.Need-display-requires
-display-requires c κs = let rows = within-true _ _ _ (sym (c .before .before .before .before .before .before .before .displayed .ensures) ∙ c .before .before .before .before .before .before .if1 .taken) in (raster-kept _ _ _ (c .before .before .before .before .before .before .before .before .before .before .before .pre) (c .before .before .before .copy .ensures), rows .0, rows .1)
+display-requires c κs = let s = c .before .before .before .before .before .before .before .before .before .before .before in
+    let rows = within-true _ _ _ (sym (c .before .before .before .before .before .before .before .displayed .ensures) ∙ c .before .before .before .before .before .before .if1 .taken) in (raster-kept _ _ _ (s .pre .0) (c .before .before .before .copy .ensures), rows .0, rows .1, s .pre .1)
 
 wide-requires-3 : tie.Need-wide-requires-3
 wide-requires-3 c κs = search needs
@@ -31,7 +32,7 @@ same-length c = search needs
 
 returns : tie.Need-returns
 returns c = let s = c .before .before .before .before .before .before .before .before .before .before .before .before .before .before .before .before .before .before .before in
-    displayed-law (s .args .s) (s .pre .accepted) _ _ _ _ _ _ _ _ _ _ _ _ (s .pre .room) (c .before .before .before .before .before .before .before .before .before .before .before .before .wide2 .ensures) (c .before .before .before .wide3 .ensures) (c .before .before .before .before .before .before .before .before .before .before .before .before .before .before .before .before .wide .ensures) (sym (c .before .before .before .before .before .before .before .before .before .before .before .before .before .before .before .displayed .ensures) ∙ c .before .before .before .before .before .before .before .before .before .before .before .before .before .before .if1 .taken) (c .before .before .before .before .before .before .before .before .before .before .before .copy .ensures) (c .before .before .before .before .before .before .before .display .ensures) (c .before .before .copy2 .ensures)
+    displayed-law (s .args .s) (s .pre .0 .accepted) _ _ _ _ _ _ _ _ _ _ _ _ (s .pre .0 .room) (c .before .before .before .before .before .before .before .before .before .before .before .before .wide2 .ensures) (c .before .before .before .wide3 .ensures) (c .before .before .before .before .before .before .before .before .before .before .before .before .before .before .before .before .wide .ensures) (sym (c .before .before .before .before .before .before .before .before .before .before .before .before .before .before .before .displayed .ensures) ∙ c .before .before .before .before .before .before .before .before .before .before .before .before .before .before .if1 .taken) (c .before .before .before .before .before .before .before .before .before .before .before .copy .ensures) (c .before .before .before .before .before .before .before .display .ensures) (c .before .before .copy2 .ensures)
 
 copy-requires-3 : tie.Need-copy-requires-3
 copy-requires-3 c κs = search needs
@@ -41,7 +42,7 @@ same-length-2 c = search needs
 
 returns-2 : tie.Need-returns-2
 returns-2 c = let s = c .before .before .before .before .before .before .before .before .before in
-    undisplayed-law (s .args .s) (s .pre .accepted) _ _ _ _ _ _ _ _ (s .pre .room) (c .before .before .before .before .before .before .wide .ensures) (sym (c .before .before .before .before .before .displayed .ensures) ∙ c .before .before .before .before .if1 .left) (c .before .before .copy3 .ensures)
+    undisplayed-law (s .args .s) (s .pre .0 .accepted) _ _ _ _ _ _ _ _ (s .pre .0 .room) (c .before .before .before .before .before .before .wide .ensures) (sym (c .before .before .before .before .before .displayed .ensures) ∙ c .before .before .before .before .if1 .left) (c .before .before .copy3 .ensures)
 
 pub plain-spec : {M : Type 1} → statement M
 plain-spec =

@@ -13,12 +13,12 @@ use Rattle.frame.proofs.rows.rows.Statement.{statement}
 use Rattle.frame.proofs.rows.rows.Tie as tie
 
 abbrev Inv-loop : tie.InvT-loop
-Inv-loop out₀ s first end pens table video cursor n line₀ at₀ y₀ out line at y =
+Inv-loop out₀ s first end pens table quads video cursor n line₀ at₀ y₀ out line at y =
     (first .0 ≤ y) × (y ≤ end .0) × (at ≡ (y - first .0) * s .n .0) × Paints 0 out₀ out 0 at (rowsInk s pens table video cursor (first .0))
     × (anew s (first .0) y ≡ false → Edged s pens y line)
 
 abbrev μ-loop : tie.MeasureT-loop
-μ-loop out₀ s first end pens table video cursor n line₀ at₀ y₀ out line at y = end .0 - y
+μ-loop out₀ s first end pens table quads video cursor n line₀ at₀ y₀ out line at y = end .0 - y
 
 wide-requires : tie.Need-wide-requires Inv-loop μ-loop
 wide-requires c κs = search needs
@@ -33,7 +33,7 @@ renew-requires c κs = (c .before .before .before .before .before .before .befor
 row-requires : tie.Need-row-requires Inv-loop μ-loop
 row-requires c κs = let s = c .before .before .before .before .before .before .before .before .before .before .before in
     let l = c .before .before .before .before .before .before .loop in
-    (lent-row (s .args .first .0) (s .args .end .0) (l .y) _ (s .pre .0) (l .inv .3 .len) (l .inv .0) (c .before .before .before .before .if1 .taken) (l .inv .2), c .before .before .renew .ensures)
+    (lent-row (s .args .first .0) (s .args .end .0) (l .y) _ (s .pre .0) (l .inv .3 .len) (l .inv .0) (c .before .before .before .before .if1 .taken) (l .inv .2), c .before .before .renew .ensures, s .pre .2)
 
 add-at : tie.Need-add-at Inv-loop μ-loop
 add-at c = let s = c .before .before .before .before .before .before .before .before .before .before .before .before .before .before in
