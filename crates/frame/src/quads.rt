@@ -51,6 +51,7 @@ fn quad(quads: &[u64; 1024], w: u32) -> u64
     a + b + c + d
 }
 
+// They are stored one after another: the machine stores all 64 bits at once.
 fn put_quad(out: &mut [u16], at: usize, x: u64)
     requires { ⌜ at + 4 ≤ length (now out) ⌝ }
     ensures { λ _. ⌜ now (out .exit) ≡ painted (now (out .entry)) at (at + 4) (from at (quadCell x)) ⌝ }
