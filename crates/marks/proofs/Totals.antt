@@ -1,6 +1,6 @@
 -- Laws of sums: term by term, in parts, in rows, and within a window outside of which nothing counts.
 use Prim.Native.Nat.{ℕ, zero, suc, _+_, _*_, _<_, _≤_}
-use mathlib.Core.Path.{_≡_, refl, ap}
+use mathlib.Core.Path.{_≡_, refl, ap, _∙_}
 use native.Mathlib.Nat.{add-assoc, add-zero, add-suc, suc-mul, zero-mul}
 use native.Mathlib.Numerals.{add-one}
 use native.Mathlib.Omega.{arith}
@@ -13,6 +13,13 @@ total-more f n = rw add-one
 -- A loop's sum, one term further.
 pub sum-more : {sum v : ℕ} (f : ℕ → ℕ) (n : ℕ) → sum ≡ total f n → v ≡ f n → sum + v ≡ total f (n + 1)
 sum-more f n e h = rw (total-more f n, e, h)
+
+-- Two sums, each with an element more.
+pub sums-more : (a b : ℕ) {v w : ℕ} (f : ℕ → ℕ) (n : ℕ) → a + b ≡ total f n → v ≡ f n → w ≡ f (n + 1) → a + v + (b + w) ≡ total f (n + 2)
+sums-more a b f n e h l =
+    let two : total f (n + 2) ≡ total f n + f n + f (n + 1) =
+    let k : n + 2 ≡ n + 1 + 1 = omega arith in rw k (total-more f (n + 1) ∙ rw (total-more f n)) in
+    omega (arith, e, h, l, two)
 
 pub total-as : (f h : ℕ → ℕ) (n : ℕ) → ((k : ℕ) → k < n → f k ≡ h k) → total f n ≡ total h n
 unfolding total
