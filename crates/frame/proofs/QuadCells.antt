@@ -10,7 +10,7 @@ use Rattle.buffers.specs.Painted.{painted}
 use Rattle.buffers.proofs.Paints.{Paints, paint-as, paint-none, paint-more, paints-of, paints-painted}
 use Rattle.frame.specs.Ink.{from, movedInk, quadCell, wordInk, wordsInk}
 use Rattle.buffers.specs.Words.{byteOf}
-use Rattle.frame.specs.Lent.{Cells, Joined, Quads, Four}
+use Rattle.frame.specs.Made.{Cells, Joined, Quads, Four}
 
 -- The cell that byte j of a word has, one to a byte.
 pub word-cell : (table : List ℕ) (w j : ℕ) → wordInk table w 1 j ≡ getD table (w / 2 ^ (8 * j) % 256) 0

@@ -12,7 +12,8 @@ use Rattle.registers.specs.declared.setting.Setting.{Setting}
 use Rattle.frame.specs.Pixel.{cursorPair}
 use Rattle.frame.specs.Cell.{covered}
 use Rattle.registers.proofs.Accepted.{Accepted}
-use Rattle.frame.specs.Lent.{Lent, Edged}
+use Rattle.frame.specs.Lent.{Lent}
+use Rattle.frame.specs.Made.{Edged}
 use Rattle.frame.specs.Ink.{from, plainInk, linedInk, ink, coverInk, rowsInk}
 use Rattle.frame.proofs.Edges.{lined-plain}
 

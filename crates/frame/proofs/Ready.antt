@@ -29,7 +29,7 @@ use Rattle.frame.specs.Cell.{inDisplay, inBorder, inCursor, plainCode, c
 use Rattle.frame.specs.Ink.{byteInk, bytesInk, wordsInk, displayInk, plainInk, ink, rowsInk, rowsCell, shade, pensOf}
 use Rattle.frame.proofs.PixelPlaces.{per-least, per-most, pixel-byte}
 use Rattle.frame.proofs.Words.{part-room}
-use Rattle.frame.specs.Lent.{Cells}
+use Rattle.frame.specs.Made.{Cells}
 use Rattle.frame.specs.Frame.{cells, frameCell, rasterCell}
 
 -- How many logical pixels there are, as the machine reckons it.

@@ -3,3 +3,4 @@ pub mod Cell
 pub mod Frame
 pub mod Ink
 pub mod Lent
+pub mod Made

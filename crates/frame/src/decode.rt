@@ -6,7 +6,8 @@ ghost use Prim.Native.Nat.{_+_, _*_, _/_, _≤_, _<_};
 ghost use lib.ListN.{length, replicate};
 ghost use Rattle.buffers.specs.Painted.{painted};
 ghost use Rattle.registers.proofs.Accepted.{Depth};
-ghost use Rattle.frame.specs.Lent.{Parts, Tables};
+ghost use Rattle.frame.specs.Lent.{Parts};
+ghost use Rattle.frame.specs.Made.{Tables};
 ghost use Rattle.frame.specs.Ink.{from, wordInk, wordsInk};
 
 // Pixel i of a word, `per` pixels to a byte.

@@ -9,7 +9,8 @@ ghost use Rattle.buffers.specs.Painted.{painted};
 ghost use Rattle.registers.specs.Setting.{rasterWords};
 ghost use Rattle.frame.specs.Pixel.{firstWord};
 ghost use Rattle.registers.proofs.Accepted.{Accepted};
-ghost use Rattle.frame.specs.Lent.{Raster, Tables};
+ghost use Rattle.frame.specs.Lent.{Raster};
+ghost use Rattle.frame.specs.Made.{Tables};
 ghost use Rattle.frame.specs.Ink.{from, displayInk};
 
 // How many words a displayed raster has.

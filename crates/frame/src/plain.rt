@@ -8,7 +8,8 @@ ghost use mathlib.Core.Path.{_≡_};
 ghost use Prim.Native.Nat.{_+_, _≤_};
 ghost use lib.ListN.{length};
 ghost use Rattle.buffers.specs.Painted.{painted};
-ghost use Rattle.frame.specs.Lent.{Raster, Tables};
+ghost use Rattle.frame.specs.Lent.{Raster};
+ghost use Rattle.frame.specs.Made.{Tables};
 ghost use Rattle.frame.specs.Ink.{from, cellIn, linedInk};
 
 // Positions a up to b of a line, into the raster at place `at`.

@@ -1,6 +1,6 @@
 use Rattle.frame.proofs.Rasters.{lent-row, row-room, row-turn, no-place, next-place}
 use Rattle.frame.proofs.Edges.{first-edged, edged-next}
-use Rattle.frame.specs.Lent.{Edged, anew}
+use Rattle.frame.specs.Made.{Edged, anew}
 use Rattle.frame.specs.Ink.{rowsInk}
 use Rattle.buffers.proofs.Paints.{Paints, paint-none, paints-painted}
 use mathlib.Core.Path.{_≡_, ap, _∙_}
