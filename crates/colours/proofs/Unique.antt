@@ -3,13 +3,23 @@ use mathlib.Core.Path.{sym, _∙_}
 use Rattle.buffers.proofs.Coincide.{OneAnswer}
 use Rattle.colours.proofs.colour.Kinds as colour-kinds
 use Rattle.colours.proofs.colour.Reads as colour-reads
+use Rattle.colours.proofs.entries.Kinds as entries-kinds
+use Rattle.colours.proofs.entries.Reads as entries-reads
 use Rattle.colours.proofs.grey.Kinds as grey-kinds
 use Rattle.colours.proofs.grey.Reads as grey-reads
 use Rattle.colours.proofs.pin.Kinds as pin-kinds
 use Rattle.colours.proofs.pin.Reads as pin-reads
+use Rattle.colours.proofs.shown.Kinds as shown-kinds
+use Rattle.colours.proofs.shown.Reads as shown-reads
+
+pub one-shown : OneAnswer 0 shown-kinds.ps shown-kinds.r shown-reads.Post
+one-shown κs a x y s t p q = p ∙ sym q
 
 pub one-colour : OneAnswer 0 colour-kinds.ps colour-kinds.r colour-reads.Post
 one-colour κs a x y s t p q = p ∙ sym q
+
+pub one-entries : OneAnswer 0 entries-kinds.ps entries-kinds.r entries-reads.Post
+one-entries κs a x y s t p q = p ∙ sym q
 
 pub one-grey : OneAnswer 0 grey-kinds.ps grey-kinds.r grey-reads.Post
 one-grey κs a x y s t p q = p ∙ sym q

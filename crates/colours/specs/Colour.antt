@@ -1,7 +1,10 @@
 -- The colour that a logical pixel shows.
 use Prim.Native.Nat.{ℕ, _+_, _*_, _/_, _%_}
+use mathlib.Core.List.{List}
 use lib.Dec.{eqb}
+use lib.ListN.{replicate}
 use Rattle.buffers.specs.Pick.{pick}
+use Rattle.buffers.specs.Painted.{painted}
 use Rattle.registers.specs.Colours.{paletteOf}
 use Rattle.registers.specs.declared.record.Registers.{Registers}
 
@@ -11,6 +14,14 @@ mixed e p =
     e / 4096 % 2 * 4096 + p / 128 % 2 * 2048 + e / 256 % 8 * 256 + p / 64 % 2 * 128 + p / 32 % 2 * 64 + e / 16 % 4 * 16
     + p / 16 % 2 * 8 + e % 8
 
--- Depth 1, 2, 4: the palette entry of the logical pixel, in all 13 bits. Depth 8: the low nibble picks the entry.
+-- Depth 1, 2, 4: the entry in all 13 bits.
+abbrev pub shownOf : ℕ → ℕ → ℕ → ℕ
+shownOf e d p = pick (eqb d 8) (mixed e p) e
+
+-- The logical pixel picks the entry, at depth 8 its low nibble.
 abbrev pub colourOf : Registers → ℕ → ℕ → ℕ
-colourOf g d p = pick (eqb d 8) (mixed (paletteOf g p) p) (paletteOf g p)
+colourOf g d p = shownOf (paletteOf g p) d p
+
+-- The sixteen entries.
+unfoldable pub entriesOf : Registers → List ℕ
+entriesOf g = painted (replicate 16 0) 0 16 (paletteOf g)

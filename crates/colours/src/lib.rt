@@ -2,7 +2,7 @@
 use registers::record::Registers;
 ghost use mathlib.Core.Path.{_≡_};
 ghost use Rattle.buffers.specs.Pick.{pick};
-ghost use Rattle.colours.specs.Colour.{mixed, colourOf};
+ghost use Rattle.colours.specs.Colour.{mixed, shownOf, colourOf, entriesOf};
 ghost use Rattle.colours.specs.Grey.{greyOf};
 ghost use Rattle.colours.specs.Pin.{pinOf};
 
@@ -21,15 +21,34 @@ fn mix(entry: u16, pixel: u8) -> u16
         + entry % 8
 }
 
-// The colour that a logical pixel shows, 13 bits.
-pub fn colour(g: Registers, depth: u8, pixel: u8) -> u16
-    ensures { λ r. ⌜ r ≡ colourOf g depth pixel ⌝ }
+// The colour that a palette entry shows for a logical pixel, 13 bits.
+pub fn shown(entry: u16, depth: u8, pixel: u8) -> u16
+    ensures { λ r. ⌜ r ≡ shownOf entry depth pixel ⌝ }
 {
-    let entry = g.palette(pixel);
     if depth == 8 {
         return mix(entry, pixel);
     }
     entry
+}
+
+// The colour that a logical pixel shows.
+pub fn colour(g: Registers, depth: u8, pixel: u8) -> u16
+    ensures { λ r. ⌜ r ≡ colourOf g depth pixel ⌝ }
+{
+    shown(g.palette(pixel), depth, pixel)
+}
+
+// The video palette, for callers that show many pixels: a record that is handed on for each would be copied each time.
+pub fn entries(g: Registers) -> [u16; 16]
+    ensures { λ r. ⌜ r ≡ entriesOf g ⌝ }
+{
+    let mut list = [0u16; 16];
+    let mut k: usize = 0;
+    while k < 16 {
+        list[k] = g.palette(k as u8);
+        k += 1;
+    }
+    list
 }
 
 // The grey of a colour, 0 to 255.

@@ -1,0 +1,16 @@
+-- A pixel's entry among the sixteen.
+use Prim.Native.Nat.{ℕ, _%_}
+use mathlib.Core.Path.{_≡_, refl, ap, _∙_}
+use mathlib.Core.List.{List}
+use native.Mathlib.Omega.{arith}
+use lib.ListN.{getD, replicate, length-replicate}
+use Rattle.buffers.proofs.Paints.{paints-of}
+use Rattle.registers.specs.Colours.{paletteOf, colourIn}
+use Rattle.registers.specs.declared.record.Registers.{Registers}
+use Rattle.colours.specs.Colour.{entriesOf}
+
+pub entry-of : (g : Registers) (list : List ℕ) (p : ℕ) → list ≡ entriesOf g → getD list (p % 16) 0 ≡ paletteOf g p
+unfolding entriesOf
+entry-of g list p e =
+    paints-of {d = 0} {l = replicate 16 0} (omega (arith, length-replicate {A = ℕ} 16 0)) e .on (p % 16) (omega arith) (omega arith)
+    ∙ ap (λ (i : ℕ). colourIn g i) (omega arith)
