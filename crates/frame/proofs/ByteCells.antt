@@ -13,10 +13,10 @@ use Rattle.frame.specs.Ink.{from, cellIn, byteInk, bytesInk}
 use Rattle.frame.proofs.Words.{part-room}
 
 -- 2 ^ d as the machine makes it.
-pub one-shifted : (d : ℕ) → d ≤ 8 → (1 * 2 ^ d) % 2 ^ 32 ≡ 2 ^ d
+pub one-shifted : (d : ℕ) → d ≤ 4 → (1 * 2 ^ d) % 2 ^ 32 ≡ 2 ^ d
 one-shifted d h = rw (one-mul (2 ^ d)) (mod-eq-of-lt (omega (arith, pow-mono h)))
 
-pub low-bits : (x d : ℕ) → d ≤ 8 → x % ((1 * 2 ^ d) % 2 ^ 32) < 256
+pub low-bits : (x d : ℕ) → d ≤ 4 → x % ((1 * 2 ^ d) % 2 ^ 32) < 16
 low-bits x d h = rw (one-shifted d h) (omega (arith, mod-lt x (pow-pos d), pow-mono h))
 
 -- The byte that is left stands before in the table.

@@ -4,7 +4,7 @@ use mathlib.Core.Bool.{Bool, true, false, _&&_, not}
 use mathlib.Core.Path.{_≡_, refl, sym, ap, _∙_}
 use mathlib.Core.List.{List}
 use mathlib.Core.Logic.{inl, inr}
-use native.Mathlib.Nat.{mod-eq-of-lt, mod-lt, one-mul, sub-zero, zero-add, div-eq-of-lt, add-zero}
+use native.Mathlib.Nat.{div-one, mod-eq-of-lt, mod-lt, one-mul, sub-zero, zero-add, div-eq-of-lt, add-zero}
 use native.Mathlib.Omega.{arith}
 use borrow.Author.Tests.{not-true, eqb-false}
 use lib.Arith.{digits-div, digits-mod}
@@ -19,17 +19,17 @@ use Rattle.buffers.proofs.Split.{true-or-false}
 use Rattle.buffers.proofs.Tests.{and-split}
 use Rattle.registers.specs.Colours.{borderOf, cursorOf}
 use Rattle.registers.proofs.Accepted.{Depth}
-use Rattle.registers.proofs.Words.{depth-most}
 use Rattle.registers.specs.declared.record.Registers.{Registers}
 use Rattle.registers.specs.declared.setting.Setting.{Setting}
-use Rattle.colours.specs.Colour.{colourOf}
+use Rattle.colours.specs.Colour.{shownOf, colourOf, entriesOf}
 use Rattle.colours.proofs.Bounds.{colour-below}
+use Rattle.colours.proofs.Sixteen.{entry-of}
 use Rattle.frame.specs.Pixel.{position, logical, cursorPair}
 use Rattle.frame.specs.Cell.{inDisplay, inBorder, inCursor, plainCode, covered, code, cell}
-use Rattle.frame.specs.Ink.{byteInk, bytesInk, wordsInk, displayInk, plainInk, ink, rowsInk, rowsCell, shade, pensOf}
+use Rattle.frame.specs.Ink.{byteInk, bytesInk, wordsInk, displayInk, plainInk, ink, rowsInk, rowsCell, shade, entryShade, pensOf}
 use Rattle.frame.proofs.PixelPlaces.{per-least, per-most, pixel-byte}
 use Rattle.frame.proofs.Words.{part-room}
-use Rattle.frame.specs.Made.{Cells}
+use Rattle.frame.specs.Made.{Bytes, Cells}
 use Rattle.frame.specs.Frame.{cells, frameCell, rasterCell}
 
 -- How many logical pixels there are, as the machine reckons it.
@@ -39,16 +39,22 @@ count-is d h = rw (one-mul (2 ^ d)) (mod-eq-of-lt (omega (arith, pow-mono h)))
 pub count-most : (d : ℕ) → d ≤ 8 → (1 * 2 ^ d) % 2 ^ 64 ≤ 256
 count-most d h = rw (count-is d h) (omega (arith, pow-mono h))
 
-pub shade-is : (g : Registers) (d p c : ℕ) → c ≡ colourOf g d p → 5 * 8192 + c ≡ shade g d p
-unfolding shade
-shade-is g d p c e = rw e
+-- The cells by the palette's entries.
+module _ (g : Registers) (palette : List ℕ) (d p : ℕ) (e : palette ≡ entriesOf g) where
+  pub shown-below : shownOf (getD palette (p % 16) 0) d p < 8192
+  shown-below = rw (entry-of g palette p e) (colour-below g d p)
 
--- Shades are right where they have each logical pixel's cell, and a table where it has those of each byte's pixels.
-abbrev pub Shades : Registers → ℕ → List ℕ → Type 0
+  pub entry-shade : entryShade palette d p ≡ shade g d p
+  unfolding entryShade shade
+  entry-shade = rw (entry-of g palette p e)
+
+pub entry-shade-is : (palette : List ℕ) (d p c : ℕ) → c ≡ shownOf (getD palette (p % 16) 0) d p → 5 * 8192 + c ≡ entryShade palette d p
+unfolding entryShade
+entry-shade-is palette d p c e = rw e
+
+-- Shades are right where they have each logical pixel's cell.
+abbrev Shades : Registers → ℕ → List ℕ → Type 0
 Shades g d shades = (p : ℕ) → p < 2 ^ d → getD shades p 0 ≡ shade g d p
-
-abbrev pub Bytes : Registers → ℕ → List ℕ → Type 0
-Bytes g d table = (b j : ℕ) → b < 256 → j < 8 / d → getD table (b * (8 / d) + j) 0 ≡ shade g d (b / 2 ^ (j * d) % 2 ^ d)
 
 pen-at : (g : Registers) (p : ℕ) → p < 4 → (p ≡ 0 → ⊥) → getD (pensOf g) p 0 ≡ 6 * 8192 + cursorOf g p
 unfolding pensOf
@@ -80,7 +86,7 @@ module _ (g : Registers) (s : Setting) (table video cursor : List ℕ) (x y : �
   pixel-cell =
       let i = position s x y in
       let per = 8 / s .depth in
-      right (byteOf video (i / per)) (i % per) (mod-lt _ (omega arith)) (mod-lt i (per-least depth))
+      right .cell (byteOf video (i / per)) (i % per) (mod-lt _ (omega arith)) (mod-lt i (per-least depth))
       ∙ ap (λ (p : ℕ). shade g (s .depth) p) (sym (pixel-byte video (s .depth) i depth))
 
   pair-below : cursorPair s cursor y (x - s .cx .0) < 4
@@ -109,43 +115,52 @@ module _ (g : Registers) (s : Setting) (table video cursor : List ℕ) (x y : �
 pub one-raster : (n y : ℕ) → n * (y + 1 - y) ≡ n
 one-raster n y = let q : y + 1 - y ≡ 1 = omega arith in rw q (omega arith)
 
--- What `shades` makes is right, and so is what `bytes` makes of it.
-shades-right : (g : Registers) (d : ℕ) (shades : List ℕ) → d ≤ 8 → shades ≡ painted (replicate 256 0) 0 (2 ^ d) (shade g d) → Shades g d shades
-shades-right g d shades h e p b =
-    paints-of {d = 0} {l = replicate 256 0} (omega (arith, pow-mono h, length-replicate {A = ℕ} 256 0)) e .on p (omega arith) b
+-- What `shades` makes is right, and so is the table: at depth 8 what `shades` makes, else what `bytes` makes of that.
+shades-right : (g : Registers) (d : ℕ) (o shades : List ℕ) → 2 ^ d ≤ length o → shades ≡ painted o 0 (2 ^ d) (shade g d) → Shades g d shades
+shades-right g d o shades room e p b = paints-of {d = 0} {l = o} {f = shade g d} room e .on p (omega arith) b
 
-bytes-right : (g : Registers) (d : ℕ) (shades table : List ℕ) → Depth d → Shades g d shades
-    → table ≡ painted (replicate 2048 0) 0 (256 * (8 / d)) (bytesInk shades (8 / d) d) → Bytes g d table
+pub bytes-eight : (g : Registers) (d : ℕ) (o table : List ℕ) → d ≡ 8 → 256 ≤ length o → table ≡ painted o 0 (2 ^ 8) (shade g 8) → Bytes g d table
+bytes-eight g d o table eight room e = rw eight (record { cell = cell })
+  where
+    cell : (b j : ℕ) → b < 256 → j < 8 / 8 → getD table (b * (8 / 8) + j) 0 ≡ shade g 8 (b / 2 ^ (j * 8) % 2 ^ 8)
+    cell b zero h l =
+        let k : b * (8 / 8) + 0 ≡ b = omega arith in
+        let one : 2 ^ (0 * 8) ≡ 1 = refl in
+        let p : b / 2 ^ (0 * 8) % 2 ^ 8 ≡ b = rw (one, div-one b) (mod-eq-of-lt h) in
+        rw (k, p) (shades-right g 8 o table room e b h)
+    cell b (suc j) h l = absurd (omega arith)
+
+pub bytes-right : (g : Registers) (d : ℕ) (o shades table : List ℕ) → Depth d → d ≤ 4 → shades ≡ painted (replicate 16 0) 0 (2 ^ d) (shade g d)
+    → 2048 ≤ length o → table ≡ painted o 0 (256 * (8 / d)) (bytesInk shades (8 / d) d) → Bytes g d table
 unfolding bytesInk byteInk
-bytes-right g d shades table depth right e b j h l =
-    paints-of {d = 0} {l = replicate 2048 0} {f = bytesInk shades (8 / d) d} (omega (arith, per-most depth, length-replicate {A = ℕ} 2048 0)) e
-    .on (b * (8 / d) + j) (omega arith) (omega (arith, part-room b 256 (8 / d) h))
-    ∙ rw (digits-div b l, digits-mod b l) (right (b / 2 ^ (j * d) % 2 ^ d) (mod-lt _ (pow-pos d)))
+bytes-right g d o shades table depth few made room e = record { cell = cell }
+  where
+    right : Shades g d shades
+    right = shades-right g d (replicate 16 0) shades (omega (arith, pow-mono few, length-replicate {A = ℕ} 16 0)) made
+
+    cell : (b j : ℕ) → b < 256 → j < 8 / d → getD table (b * (8 / d) + j) 0 ≡ shade g d (b / 2 ^ (j * d) % 2 ^ d)
+    cell b j h l =
+        paints-of {d = 0} {l = o} {f = bytesInk shades (8 / d) d} (omega (arith, per-most depth)) e
+        .on (b * (8 / d) + j) (omega arith) (omega (arith, part-room b 256 (8 / d) h))
+        ∙ rw (digits-div b l, digits-mod b l) (right (b / 2 ^ (j * d) % 2 ^ d) (mod-lt _ (pow-pos d)))
 
 -- A shade has 16 bits, and so have the cells that depth 8 joins.
 shade-small : (g : Registers) (d p : ℕ) → shade g d p < 65536
 unfolding shade
 shade-small g d p = omega (arith, colour-below g d p)
 
-pub cells-right : (g : Registers) (d : ℕ) (shades table : List ℕ) → Depth d → shades ≡ painted (replicate 256 0) 0 (2 ^ d) (shade g d)
-    → table ≡ painted (replicate 2048 0) 0 (256 * (8 / d)) (bytesInk shades (8 / d) d) → d ≡ 8 → Cells table
-cells-right g d shades table depth shades-is table-is eight =
-    let right = bytes-right g d shades table depth (shades-right g d shades (depth-most depth) shades-is) table-is in
-    record { small = λ b h. small b (rw eight at (right b 0 h (per-least depth))) }
+pub cells-right : (g : Registers) (d : ℕ) (table : List ℕ) → Bytes g d table → d ≡ 8 → Cells table
+cells-right g d table right eight = record { small = λ b h. small b (rw eight at (right .cell b 0 h (rw eight (omega arith)))) }
   where
     small : (b : ℕ) → getD table (b * (8 / 8) + 0) 0 ≡ shade g 8 (b / 2 ^ (0 * 8) % 2 ^ 8) → getD table b 0 < 65536
     small b e =
         let k : b * (8 / 8) + 0 ≡ b = omega arith in
         omega (arith, rw k at e, shade-small g 8 (b / 2 ^ (0 * 8) % 2 ^ 8))
 
-module _ (g : Registers) (s : Setting) (pens shades table video cursor o p : List ℕ) (depth : Depth (s .depth))
-    (pens-is : pens ≡ pensOf g) (shades-is : shades ≡ painted (replicate 256 0) 0 (2 ^ s .depth) (shade g (s .depth)))
-    (table-is : table ≡ painted (replicate 2048 0) 0 (256 * (8 / s .depth)) (bytesInk shades (8 / s .depth) (s .depth))) where
+module _ (g : Registers) (s : Setting) (pens table video cursor o p : List ℕ) (depth : Depth (s .depth))
+    (pens-is : pens ≡ pensOf g) (right : Bytes g (s .depth) table) where
   same : (x y : ℕ) → ink s pens table video cursor y x ≡ cell g s video cursor x y
-  same x y =
-      rw pens-is
-      (ink-cell g s table video cursor x y depth
-      (bytes-right g (s .depth) shades table depth (shades-right g (s .depth) shades (depth-most depth) shades-is) table-is))
+  same x y = rw pens-is (ink-cell g s table video cursor x y depth right)
 
   pub rows-law : (first m : ℕ) → m ≤ length o → p ≡ painted o 0 m (rowsInk s pens table video cursor first) → p ≡ painted o 0 m (rowsCell g s video cursor first)
   unfolding rowsInk rowsCell

@@ -90,6 +90,12 @@ depth-one (inr (inl e)) a b c = absurd (c e)
 depth-one (inr (inr (inl e))) a b c = absurd (b e)
 depth-one (inr (inr (inr e))) a b c = absurd (a e)
 
+pub depth-few : {d : ℕ} → Depth d → (d ≡ 8 → ⊥) → d ≤ 4
+depth-few (inl e) a = omega arith
+depth-few (inr (inl e)) a = omega arith
+depth-few (inr (inr (inl e))) a = omega arith
+depth-few (inr (inr (inr e))) a = absurd (a e)
+
 pub fill-positive : (n d : ℕ) → n * d ≡ 32 → 0 < d
 fill-positive n d e =
     elim (lt-or-le 0 d) [

@@ -10,7 +10,7 @@ use Rattle.buffers.specs.Words.{byteOf}
 use Rattle.registers.specs.Colours.{borderOf, cursorOf}
 use Rattle.registers.specs.declared.record.Registers.{Registers}
 use Rattle.registers.specs.declared.setting.Setting.{Setting}
-use Rattle.colours.specs.Colour.{colourOf}
+use Rattle.colours.specs.Colour.{shownOf, colourOf}
 use Rattle.frame.specs.Pixel.{position, cursorPair}
 use Rattle.frame.specs.Cell.{inDisplay, inBorder, plainCode, covered, cell}
 
@@ -91,9 +91,12 @@ unfoldable pub pairInk : List ℕ → List ℕ → ℕ → ℕ → List ℕ → 
 pairInk pens cursor first start old k =
     pick (eqb (pairIn cursor first (k - start)) 0) (getD old k 0) (getD pens (pairIn cursor first (k - start)) 0)
 
--- The display cell of a logical pixel.
+-- The display cell of a logical pixel, and the same by the palette's entries.
 unfoldable pub shade : Registers → ℕ → ℕ → ℕ
 shade g d p = 5 * 8192 + colourOf g d p
+
+unfoldable pub entryShade : List ℕ → ℕ → ℕ → ℕ
+entryShade palette d p = 5 * 8192 + shownOf (getD palette (p % 16) 0) d p
 
 unfoldable pub pensOf : Registers → List ℕ
 pensOf g =

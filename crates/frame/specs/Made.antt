@@ -1,12 +1,13 @@
--- What is made ready beforehand: a line of the cells outside the display, and the table that depth 8 is painted by.
-use Prim.Native.Nat.{ℕ, _+_, _*_, _^_, _<_}
+-- What is made ready beforehand: a line of the cells outside the display, the table of bytes, and that of depth 8.
+use Prim.Native.Nat.{ℕ, _+_, _*_, _/_, _%_, _^_, _<_}
 use mathlib.Core.Bool.{Bool, _||_}
 use mathlib.Core.List.{List}
 use mathlib.Core.Path.{_≡_}
 use lib.Dec.{eqb}
 use lib.ListN.{getD}
+use Rattle.registers.specs.declared.record.Registers.{Registers}
 use Rattle.registers.specs.declared.setting.Setting.{Setting}
-use Rattle.frame.specs.Ink.{edgeInk, wordInk, quadCell}
+use Rattle.frame.specs.Ink.{edgeInk, shade, wordInk, quadCell}
 
 -- A line holds raster y's cells outside the display.
 pub record Edged (s : Setting) (pens : List ℕ) (y : ℕ) (line : List ℕ) : Type 0 where
@@ -15,6 +16,10 @@ pub record Edged (s : Setting) (pens : List ℕ) (y : ℕ) (line : List ℕ) : T
 -- Only from these rasters on can such cells differ from those of the raster before.
 abbrev pub anew : Setting → ℕ → ℕ → Bool
 anew s first y = eqb y first || eqb y (s .vs .0) || eqb y (s .vbs .0) || eqb y (s .vbe .0)
+
+-- A table holds, of each byte, the cells of all its pixels.
+pub record Bytes (g : Registers) (d : ℕ) (table : List ℕ) : Type 0 where
+  pub cell : (b j : ℕ) → b < 256 → j < 8 / d → getD table (b * (8 / d) + j) 0 ≡ shade g d (b / 2 ^ (j * d) % 2 ^ d)
 
 -- A table of quads: each byte's cell, of 16 bits, at its four places.
 pub record Joined (quads : List ℕ) : Type 0 where

@@ -1,4 +1,4 @@
-// The table that the display is painted by, made once for each call: the cells of all pixels of each byte.
+// The cells of all pixels of each byte at depths 1, 2 and 4, made once for each call.
 use crate::put::put;
 ghost use mathlib.Core.Path.{_≡_};
 ghost use Prim.Native.Nat.{_+_, _*_, _-_, _/_, _≤_, _<_};
@@ -22,8 +22,8 @@ fn behind(first: u16, table: &[u16], at: usize, count: usize) -> [u16; 8]
 }
 
 // Those of all bytes, `per` to a byte: of each the lowest pixel's, then those of the byte that is left without it.
-fn all(out: &mut [u16], per: usize, d: u32, shades: &[u16; 256])
-    requires { ⌜ (256 * per ≤ length (now out)) × (0 < per) × (per ≤ 8) × (0 < d) × (d ≤ 8) ⌝ }
+fn all(out: &mut [u16], per: usize, d: u32, shades: &[u16; 16])
+    requires { ⌜ (256 * per ≤ length (now out)) × (0 < per) × (per ≤ 8) × (0 < d) × (d ≤ 4) ⌝ }
     ensures { λ _. ⌜ now (out .exit) ≡ painted (now (out .entry)) 0 (256 * per) (bytesInk (now (shades .entry)) per d) ⌝ }
 {
     put(out, 0, per, [shades[0]; 8]);
@@ -40,14 +40,10 @@ fn all(out: &mut [u16], per: usize, d: u32, shades: &[u16; 256])
 }
 
 // The same by depth, in literals.
-pub fn bytes(table: &mut [u16; 2048], shades: &[u16; 256], d: u8)
-    requires { ⌜ Depth d ⌝ }
+pub fn bytes(table: &mut [u16], shades: &[u16; 16], d: u8)
+    requires { ⌜ (2048 ≤ length (now table)) × Depth d × (d ≤ 4) ⌝ }
     ensures { λ _. ⌜ now (table .exit) ≡ painted (now (table .entry)) 0 (256 * (8 / d)) (bytesInk (now (shades .entry)) (8 / d) d) ⌝ }
 {
-    if d == 8 {
-        all(table, 1, 8, shades);
-        return;
-    }
     if d == 4 {
         all(table, 2, 4, shades);
         return;

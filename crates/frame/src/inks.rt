@@ -2,29 +2,46 @@
 use crate::bytes::bytes;
 use crate::quads::quads;
 use crate::rows::rows;
-use colours::colour;
+use colours::entries;
+use colours::shown;
 use registers::record::Registers;
 use registers::setting::Setting;
 use registers::units::Rasters;
 ghost use mathlib.Core.Path.{_≡_};
 ghost use Prim.Native.Nat.{_*_, _-_, _^_, _≤_};
-ghost use lib.ListN.{replicate};
+ghost use lib.ListN.{length};
 ghost use Rattle.buffers.specs.Painted.{painted};
+ghost use Rattle.registers.proofs.Accepted.{Depth};
 ghost use Rattle.frame.specs.Lent.{Lent};
+ghost use Rattle.frame.specs.Made.{Bytes};
 ghost use Rattle.frame.specs.Ink.{shade, pensOf, rowsCell};
 
-fn shades(g: Registers, depth: u8) -> [u16; 256]
-    requires { ⌜ depth ≤ 8 ⌝ }
-    ensures { λ r. ⌜ r ≡ painted (replicate 256 0) 0 (2 ^ depth) (shade g depth) ⌝ }
+// The display cell of each logical pixel.
+fn shades(list: &mut [u16], g: Registers, depth: u8)
+    requires { ⌜ (depth ≤ 8) × (2 ^ depth ≤ length (now list)) ⌝ }
+    ensures { λ _. ⌜ now (list .exit) ≡ painted (now (list .entry)) 0 (2 ^ depth) (shade g depth) ⌝ }
 {
-    let mut table = [0u16; 256];
+    let palette = entries(g);
     let count = 1usize << depth;
     let mut p = 0;
     while p < count {
-        table[p] = 5 * 8192 + colour(g, depth, p as u8);
+        list[p] = 5 * 8192 + shown(palette[p % 16], depth, p as u8);
         p += 1;
     }
-    table
+}
+
+// The cells of all pixels of each byte: at depth 8 a byte is a pixel.
+fn ready(table: &mut [u16], g: Registers, depth: u8)
+    requires { ⌜ (2048 ≤ length (now table)) × Depth depth ⌝ }
+    ensures { λ _. ⌜ Bytes g depth (now (table .exit)) ⌝ }
+{
+    if depth == 8 {
+        shades(table, g, 8);
+        return;
+    }
+    let mut cells = [0u16; 16];
+    shades(&mut cells, g, depth);
+    bytes(table, &cells, depth);
 }
 
 fn pens(g: Registers) -> [u16; 4]
@@ -51,9 +68,8 @@ pub fn paint(
     ensures { λ _. ⌜ now (out .exit) ≡ painted (now (out .entry)) 0 (s .n .0 * (end .0 - first .0))
         (rowsCell g s (now (video .entry)) (now (cursor .entry)) (first .0)) ⌝ }
 {
-    let cells = shades(g, s.depth);
     let mut table = [0u16; 2048];
-    bytes(&mut table, &cells, s.depth);
+    ready(&mut table, g, s.depth);
     let mut four = [0u64; 1024];
     quads(&mut four, &table, s.depth);
     let inks = pens(g);

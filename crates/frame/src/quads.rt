@@ -4,7 +4,7 @@ ghost use Prim.Native.Nat.{_+_, _*_, _≤_};
 ghost use lib.ListN.{length};
 ghost use Rattle.buffers.specs.Painted.{painted};
 ghost use Rattle.frame.specs.Made.{Cells, Quads, Tables, Joined, Four};
-ghost use Rattle.frame.specs.Ink.{from, movedInk, quadCell, wordsInk};
+ghost use Rattle.frame.specs.Ink.{from, movedInk, quadCell, wordInk, wordsInk};
 
 // The cell of each byte moved up by so many bits, from place `at` of the table on.
 fn place(quads: &mut [u64], at: usize, table: &[u16; 2048], bits: u32)
@@ -62,17 +62,28 @@ fn put_quad(out: &mut [u16], at: usize, x: u64)
     out[at + 3] = ((x >> 48) % 0x1_0000) as u16;
 }
 
-// All pixels of a list of words.
+// All pixels of one word.
+fn quad_word(out: &mut [u16], at: usize, w: u32, quads: &[u64; 1024])
+    requires { ⌜ (at + 4 ≤ length (now out)) × Joined (now quads) ⌝ }
+    ensures { λ _. ⌜ now (out .exit) ≡ painted (now (out .entry)) at (at + 4 * 1) (from at (wordInk (now (quads .entry)) w 1)) ⌝ }
+{
+    put_quad(out, at, quad(quads, w));
+}
+
+// All pixels of a list of words, two words a turn; one counter serves both lists, so that the machine keeps all in registers.
 pub fn quad_words(out: &mut [u16], at: usize, video: &[u32], quads: &[u64; 1024])
     requires { ⌜ (at + length (now video) * (4 * 1) ≤ length (now out)) × Joined (now quads) ⌝ }
     ensures { λ _. ⌜ now (out .exit) ≡ painted (now (out .entry)) at (at + length (now (video .entry)) * (4 * 1))
         (from at (wordsInk (now (quads .entry)) (now (video .entry)) 1)) ⌝ }
 {
-    let mut k = at;
+    let even = video.len() - video.len() % 2;
     let mut q = 0;
-    while q < video.len() {
-        put_quad(out, k, quad(quads, video[q]));
-        k += 4;
-        q += 1;
+    while q < even {
+        quad_word(out, at + 4 * q, video[q], quads);
+        quad_word(out, at + 4 * q + 4, video[q + 1], quads);
+        q += 2;
+    }
+    if q < video.len() {
+        quad_word(out, at + 4 * q, video[q], quads);
     }
 }

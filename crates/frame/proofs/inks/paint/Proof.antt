@@ -1,18 +1,16 @@
 use Rattle.frame.proofs.Ready.{cells-right, rows-law}
-use Rattle.registers.proofs.Words.{depth-most}
 use borrow.Author.Needs.{needs}
 use Rattle.frame.proofs.inks.paint.Statement.{statement}
 use Rattle.frame.proofs.inks.paint.Tie as tie
 
-shades-requires : tie.Need-shades-requires
-shades-requires c κs = depth-most (c .before .before .before .pre .0 .accepted .depth)
+slice-aggregate-ready : tie.Need-slice-aggregate-ready
+slice-aggregate-ready c = search needs
 
-bytes-requires : tie.Need-bytes-requires
-bytes-requires c κs = search needs
+ready-requires : tie.Need-ready-requires
+ready-requires c κs = search needs
 
 quads-requires : tie.Need-quads-requires
-quads-requires c κs = let s = c .before .before .before .before .before .before .before .before .before in
-    cells-right (s .args .g) (s .args .s .depth) _ _ (s .pre .0 .accepted .depth) (c .before .before .before .before .before .shades .ensures) (c .before .before .bytes .ensures)
+quads-requires c κs = cells-right (c .before .before .before .before .before .before .before .before .args .g) (c .before .before .before .before .before .before .before .before .args .s .depth) _ (c .before .before .before .ready .ensures)
 
 pens-requires : tie.Need-pens-requires
 pens-requires c κs = search needs
@@ -24,15 +22,15 @@ same-length : tie.Need-same-length
 same-length c = search needs
 
 returns : tie.Need-returns
-returns c = let s = c .before .before .before .before .before .before .before .before .before .before .before .before .before .before .before .before .before .before in
-    rows-law (s .args .g) (s .args .s) _ _ _ _ _ _ _ (s .pre .0 .accepted .depth) (c .before .before .before .before .before .before .before .pens .ensures) (c .before .before .before .before .before .before .before .before .before .before .before .before .before .before .shades .ensures) (c .before .before .before .before .before .before .before .before .before .before .before .bytes .ensures) _ _ (s .pre .0 .room) (c .before .before .rows .ensures)
+returns c = let s = c .before .before .before .before .before .before .before .before .before .before .before .before .before .before .before .before .before in
+    rows-law (s .args .g) (s .args .s) _ _ _ _ _ _ (s .pre .0 .accepted .depth) (c .before .before .before .before .before .before .before .pens .ensures) (c .before .before .before .before .before .before .before .before .before .before .before .before .ready .ensures) _ _ (s .pre .0 .room) (c .before .before .rows .ensures)
 
 pub paint-spec : {M : Type 1} → statement M
 paint-spec =
     tie.close
     (tie.spec
-    shades-requires
-    bytes-requires
+    slice-aggregate-ready
+    ready-requires
     quads-requires
     pens-requires
     rows-requires

@@ -1,63 +1,84 @@
+use Prim.Native.Nat.{_-_, _^_, _≤_}
+use mathlib.Core.Path.{_≡_}
 use native.Mathlib.Omega.{arith}
 use borrow.Author.Needs.{needs}
-use Rattle.frame.proofs.Ready.{count-is, count-most, shade-is}
-use Rattle.colours.proofs.Bounds.{colour-below}
-use Rattle.frame.specs.Ink.{shade}
-use lib.ListN.{replicate, length-replicate}
-use Prim.Native.Nat.{ℕ, _-_, _^_, _≤_}
-use mathlib.Core.Path.{_≡_}
-use Rattle.buffers.proofs.Paints.{Paints, paint-none, paint-more, paints-painted}
+use Rattle.buffers.proofs.Paints.{Paints, paint-none, paint-more, paint-as, paints-painted}
+use Rattle.frame.specs.Ink.{shade, entryShade}
+use Rattle.frame.proofs.Ready.{count-is, count-most, shown-below, entry-shade, entry-shade-is}
 use Rattle.frame.proofs.inks.shades.Statement.{statement}
 use Rattle.frame.proofs.inks.shades.Tie as tie
 
 abbrev Inv-loop : tie.InvT-loop
-Inv-loop g depth table₀ count p₀ table p = (p ≤ 2 ^ depth) × Paints 0 (replicate 256 0) table 0 p (shade g depth)
+Inv-loop list₀ depth palette count p₀ list p = (p ≤ 2 ^ depth) × Paints 0 list₀ list 0 p (entryShade palette depth)
 
 abbrev μ-loop : tie.MeasureT-loop
-μ-loop g depth table₀ count p₀ table p = 2 ^ depth - p
+μ-loop list₀ depth palette count p₀ list p = 2 ^ depth - p
+
+entries-requires : tie.Need-entries-requires Inv-loop μ-loop
+entries-requires c κs = search needs
 
 shl-count : tie.Need-shl-count Inv-loop μ-loop
-shl-count c = omega (arith, c .pre)
+shl-count c = omega (arith, c .before .before .pre .0)
 
 loop-holds : tie.Need-loop-holds Inv-loop μ-loop
 loop-holds c = (omega arith, paint-none _ _)
 
-mul-table : tie.Need-mul-table Inv-loop μ-loop
-mul-table c = search needs
+mul-list : tie.Need-mul-list Inv-loop μ-loop
+mul-list c = search needs
 
-cast-colour : tie.Need-cast-colour Inv-loop μ-loop
-cast-colour c = omega (arith, c .loop-test .taken, count-is (c .before .before .args .depth) (c .before .before .pre), count-most (c .before .before .args .depth) (c .before .before .pre))
+mul-shown : tie.Need-mul-shown Inv-loop μ-loop
+mul-shown c = search needs
 
-colour-requires : tie.Need-colour-requires Inv-loop μ-loop
-colour-requires c κs = search needs
+array-read-shown : tie.Need-array-read-shown Inv-loop μ-loop
+array-read-shown c = search needs
 
-add-table : tie.Need-add-table Inv-loop μ-loop
-add-table c = omega (arith, c .colour .ensures, colour-below (c .before .before .before .args .g) (c .before .before .before .args .depth) (c .before .before .loop .p))
+cast-shown : tie.Need-cast-shown Inv-loop μ-loop
+cast-shown c = let d = c .before .before .before .before .args .depth in
+    let few = c .before .before .before .before .pre .0 in
+    omega (arith, c .loop-test .taken, count-is d few, count-most d few)
 
-mul-table-2 : tie.Need-mul-table-2 Inv-loop μ-loop
-mul-table-2 c = omega (arith, c .before .loop-test .taken, count-is (c .before .before .before .args .depth) (c .before .before .before .pre), count-most (c .before .before .before .args .depth) (c .before .before .before .pre))
+shown-requires : tie.Need-shown-requires Inv-loop μ-loop
+shown-requires c κs = search needs
 
-array-write-table : tie.Need-array-write-table Inv-loop μ-loop
-array-write-table c = omega (arith, c .before .loop-test .taken, count-is (c .before .before .before .args .depth) (c .before .before .before .pre), count-most (c .before .before .before .args .depth) (c .before .before .before .pre))
+add-list : tie.Need-add-list Inv-loop μ-loop
+add-list c = omega (arith, c .shown .ensures, shown-below (c .before .before .before .before .before .args .g) (c .before .before .before .entries .result) (c .before .before .before .before .before .args .depth) (c .before .before .loop .p) (c .before .before .before .entries .ensures))
+
+mul-list-2 : tie.Need-mul-list-2 Inv-loop μ-loop
+mul-list-2 c = let d = c .before .before .before .before .before .args .depth in
+    let few = c .before .before .before .before .before .pre .0 in
+    omega (arith, c .before .loop-test .taken, count-is d few, count-most d few, c .before .before .before .before .before .pre .1, c .before .before .loop .inv .1 .len)
+
+slice-write-list : tie.Need-slice-write-list Inv-loop μ-loop
+slice-write-list c = let d = c .before .before .before .before .before .args .depth in
+    let few = c .before .before .before .before .before .pre .0 in
+    omega (arith, c .before .loop-test .taken, count-is d few, count-most d few, c .before .before .before .before .before .pre .1, c .before .before .loop .inv .1 .len)
 
 add-p : tie.Need-add-p Inv-loop μ-loop
-add-p c = omega (arith, c .before .loop-test .taken, count-is (c .before .before .before .args .depth) (c .before .before .before .pre), count-most (c .before .before .before .args .depth) (c .before .before .before .pre))
+add-p c = let d = c .before .before .before .before .before .args .depth in
+    let few = c .before .before .before .before .before .pre .0 in
+    omega (arith, c .before .loop-test .taken, count-is d few, count-most d few, c .before .before .before .before .before .pre .1, c .before .before .loop .inv .1 .len)
 
 loop-less : tie.Need-loop-less Inv-loop μ-loop
-loop-less c = omega (arith, c .before .loop-test .taken, count-is (c .before .before .before .args .depth) (c .before .before .before .pre), count-most (c .before .before .before .args .depth) (c .before .before .before .pre))
+loop-less c = let d = c .before .before .before .before .before .args .depth in
+    let few = c .before .before .before .before .before .pre .0 in
+    omega (arith, c .before .loop-test .taken, count-is d few, count-most d few, c .before .before .before .before .before .pre .1, c .before .before .loop .inv .1 .len)
 
 loop-again : tie.Need-loop-again Inv-loop μ-loop
-loop-again c = let s = c .before .before .before in
-    let l = c .before .before .loop in (
-      omega (arith, c .before .loop-test .taken, count-is (c .before .before .before .args .depth) (c .before .before .before .pre), count-most (c .before .before .before .args .depth) (c .before .before .before .pre)),
-      paint-more _ (omega arith) (omega (arith, c .before .loop-test .taken, count-is (c .before .before .before .args .depth) (c .before .before .before .pre), count-most (c .before .before .before .args .depth) (c .before .before .before .pre), length-replicate {A = ℕ} 256 0)) (shade-is _ _ _ _ (c .colour .ensures)) (l .inv .1),
+loop-again c = let d = c .before .before .before .before .before .args .depth in
+    let few = c .before .before .before .before .before .pre .0 in (
+      omega (arith, c .before .loop-test .taken, count-is d few),
+      paint-more _ (omega arith) (omega (arith, c .before .loop-test .taken, count-is d few, c .before .before .before .before .before .pre .1)) (entry-shade-is _ _ _ _ (c .shown .ensures)) (c .before .before .loop .inv .1),
     )
 
+same-length : tie.Need-same-length Inv-loop μ-loop
+same-length c = search needs
+
 returns : tie.Need-returns Inv-loop μ-loop
-returns c = let s = c .before .before in
+returns c = let s = c .before .before .before .before in
     let l = c .before .loop in
-    let e : l .p ≡ 2 ^ s .args .depth = omega (arith, l .inv .0, c .loop-test .left, count-is (c .before .before .args .depth) (c .before .before .pre), count-most (c .before .before .args .depth) (c .before .before .pre)) in
-    paints-painted {d = 0} (omega (arith, count-is (c .before .before .args .depth) (c .before .before .pre), count-most (c .before .before .args .depth) (c .before .before .pre), length-replicate {A = ℕ} 256 0)) (rw e at (l .inv .1))
+    let e : l .p ≡ 2 ^ s .args .depth = omega (arith, l .inv .0, c .loop-test .left, count-is (s .args .depth) (s .pre .0)) in
+    paints-painted {d = 0} (s .pre .1)
+    (paint-as (shade (s .args .g) (s .args .depth)) (λ k a b. entry-shade (s .args .g) _ (s .args .depth) k (c .before .before .entries .ensures)) (rw e at (l .inv .1)))
 
 pub shades-spec : {M : Type 1} → statement M
 shades-spec =
@@ -65,15 +86,19 @@ shades-spec =
     (tie.spec
     Inv-loop
     μ-loop
+    entries-requires
     shl-count
     loop-holds
-    mul-table
-    cast-colour
-    colour-requires
-    add-table
-    mul-table-2
-    array-write-table
+    mul-list
+    mul-shown
+    array-read-shown
+    cast-shown
+    shown-requires
+    add-list
+    mul-list-2
+    slice-write-list
     add-p
     loop-less
     loop-again
+    same-length
     returns)

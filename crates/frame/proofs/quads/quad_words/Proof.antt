@@ -1,64 +1,115 @@
-use Rattle.frame.proofs.QuadCells.{quad-word}
-use Rattle.frame.proofs.Words.{part-room, word-turn}
-use Rattle.frame.specs.Ink.{from, wordsInk}
-use Rattle.buffers.proofs.Paints.{Paints, paint-none, paints-painted}
-use mathlib.Core.Path.{_≡_, ap, _∙_}
-use Prim.Native.Nat.{ℕ, _+_, _*_, _-_, _≤_}
-use lib.ListN.{length}
-use borrow.Author.Needs.{needs}
+use Prim.Native.Nat.{_+_, _*_, _-_, _%_, _≤_}
+use mathlib.Core.Path.{_≡_}
 use native.Mathlib.Omega.{arith}
+use borrow.Author.Needs.{needs}
+use lib.ListN.{length}
+use Rattle.buffers.proofs.Paints.{Paints, paint-none, paints-painted}
+use Rattle.frame.specs.Ink.{from, wordsInk}
+use Rattle.frame.proofs.Words.{word-turn}
 use Rattle.frame.proofs.quads.quad_words.Statement.{statement}
 use Rattle.frame.proofs.quads.quad_words.Tie as tie
 
 abbrev Inv-loop : tie.InvT-loop
-Inv-loop out₀ at video quads k₀ q₀ out k q =
-    (q ≤ length video) × (k ≡ at + q * (4 * 1)) × Paints 0 out₀ out at k (from at (wordsInk quads video 1))
+Inv-loop out₀ at video quads even q₀ out q =
+    (q ≤ even) × (q % 2 ≡ 0) × Paints 0 out₀ out at (at + 4 * q) (from at (wordsInk quads video 1))
 
 abbrev μ-loop : tie.MeasureT-loop
-μ-loop out₀ at video quads k₀ q₀ out k q = length video - q
+μ-loop out₀ at video quads even q₀ out q = even - q
+
+sub-even : tie.Need-sub-even Inv-loop μ-loop
+sub-even c = search needs
 
 loop-holds : tie.Need-loop-holds Inv-loop μ-loop
-loop-holds c = (omega arith, omega arith, paint-none _ _)
+loop-holds c = let at = c .before .before .args .at in
+    let e : at + 4 * 0 ≡ at = omega arith in
+    (omega arith, omega arith, rw e (paint-none _ _))
 
-mul-quad : tie.Need-mul-quad Inv-loop μ-loop
-mul-quad c = search needs
+mul-quad-word : tie.Need-mul-quad-word Inv-loop μ-loop
+mul-quad-word c = omega (arith, c .before .before .before .before .before .pre .0, c .before .loop-test .taken)
 
-shared-slice-read-quad : tie.Need-shared-slice-read-quad Inv-loop μ-loop
-shared-slice-read-quad c = search needs
+add-quad-word : tie.Need-add-quad-word Inv-loop μ-loop
+add-quad-word c = omega (arith, c .before .before .before .before .before .pre .0, c .before .loop-test .taken)
 
-quad-requires : tie.Need-quad-requires Inv-loop μ-loop
-quad-requires c κs = c .before .before .before .before .before .before .pre .1
+mul-quad-word-2 : tie.Need-mul-quad-word-2 Inv-loop μ-loop
+mul-quad-word-2 c = omega (arith, c .before .before .before .before .before .pre .0, c .before .loop-test .taken)
 
-put-quad-requires : tie.Need-put-quad-requires Inv-loop μ-loop
-put-quad-requires c κs = let s = c .before .before .before .before .before .before .before in
-    let l = c .before .before .before .before .loop in
-    omega (arith, part-room (l .q) (length (s .args .video .now)) 4 (c .before .before .before .loop-test .taken), s .pre .0, l .inv .1, l .inv .2 .len)
+shared-slice-read-quad-word : tie.Need-shared-slice-read-quad-word Inv-loop μ-loop
+shared-slice-read-quad-word c = omega (arith, c .before .before .before .before .before .before .pre .0, c .before .before .loop-test .taken)
 
-add-k : tie.Need-add-k Inv-loop μ-loop
-add-k c = let s = c .before .before .before .before .before .before .before .before .before .before in
-    let l = c .before .before .before .before .before .before .before .loop in
-    omega (arith, part-room (l .q) (length (s .args .video .now)) 4 (c .before .before .before .before .before .before .loop-test .taken), s .pre .0, l .inv .1)
+quad-word-requires : tie.Need-quad-word-requires Inv-loop μ-loop
+quad-word-requires c κs = (omega (arith, c .before .before .before .before .before .before .pre .0, c .before .before .before .loop .inv .2 .len, c .before .before .loop-test .taken), c .before .before .before .before .before .before .pre .1)
+
+mul-quad-word-3 : tie.Need-mul-quad-word-3 Inv-loop μ-loop
+mul-quad-word-3 c = omega (arith, c .before .before .before .before .before .before .before .before .before .before .pre .0, c .before .before .before .before .before .before .before .loop .inv .1, c .before .before .before .before .before .before .loop-test .taken)
+
+add-quad-word-2 : tie.Need-add-quad-word-2 Inv-loop μ-loop
+add-quad-word-2 c = omega (arith, c .before .before .before .before .before .before .before .before .before .before .pre .0, c .before .before .before .before .before .before .before .loop .inv .1, c .before .before .before .before .before .before .loop-test .taken)
+
+add-quad-word-3 : tie.Need-add-quad-word-3 Inv-loop μ-loop
+add-quad-word-3 c = omega (arith, c .before .before .before .before .before .before .before .before .before .before .pre .0, c .before .before .before .before .before .before .before .loop .inv .1, c .before .before .before .before .before .before .loop-test .taken)
+
+add-quad-word-4 : tie.Need-add-quad-word-4 Inv-loop μ-loop
+add-quad-word-4 c = omega (arith, c .before .before .before .before .before .before .before .before .before .before .pre .0, c .before .before .before .before .before .before .before .loop .inv .1, c .before .before .before .before .before .before .loop-test .taken)
+
+mul-quad-word-4 : tie.Need-mul-quad-word-4 Inv-loop μ-loop
+mul-quad-word-4 c = omega (arith, c .before .before .before .before .before .before .before .before .before .before .pre .0, c .before .before .before .before .before .before .before .loop .inv .1, c .before .before .before .before .before .before .loop-test .taken)
+
+shared-slice-read-quad-word-2 : tie.Need-shared-slice-read-quad-word-2 Inv-loop μ-loop
+shared-slice-read-quad-word-2 c = omega (arith, c .before .before .before .before .before .before .before .before .before .before .before .pre .0, c .before .before .before .before .before .before .before .before .loop .inv .1, c .before .before .before .before .before .before .before .loop-test .taken)
+
+quad-word-requires-2 : tie.Need-quad-word-requires-2 Inv-loop μ-loop
+quad-word-requires-2 c κs = let s = c .before .before .before .before .before .before .before .before .before .before .before in
+    let l = c .before .before .before .before .before .before .before .before .loop in
+    let first = word-turn _ _ 1 (s .args .at) (l .q) (s .args .at + 4 * l .q) (omega arith) _ _ _ (omega (arith, s .pre .0, c .before .before .before .before .before .before .before .loop-test .taken)) (l .inv .2) (c .before .before .before .before .quad-word .ensures) in
+    (omega (arith, s .pre .0, l .inv .1, c .before .before .before .before .before .before .before .loop-test .taken, first .len), s .pre .1)
 
 add-q : tie.Need-add-q Inv-loop μ-loop
-add-q c = search needs
+add-q c = omega (arith, c .before .before .before .before .before .before .before .before .before .before .before .before .before .before .pre .0, c .before .before .before .before .before .before .before .before .before .before .before .loop .inv .1, c .before .before .before .before .before .before .before .before .before .before .loop-test .taken)
 
 loop-less : tie.Need-loop-less Inv-loop μ-loop
-loop-less c = search needs
+loop-less c = omega (arith, c .before .before .before .before .before .before .before .before .before .before .before .before .before .before .pre .0, c .before .before .before .before .before .before .before .before .before .before .before .loop .inv .1, c .before .before .before .before .before .before .before .before .before .before .loop-test .taken)
 
 loop-again : tie.Need-loop-again Inv-loop μ-loop
-loop-again c = let s = c .before .before .before .before .before .before .before .before .before .before in
-    let l = c .before .before .before .before .before .before .before .loop in
-    let room = part-room (l .q) (length (s .args .video .now)) 4 (c .before .before .before .before .before .before .loop-test .taken) in
-    (omega (arith, c .before .before .before .before .before .before .loop-test .taken), omega (arith, l .inv .1), word-turn _ _ 1 (s .args .at) (l .q) (l .k) (l .inv .1) _ _ _ (omega (arith, room, s .pre .0, l .inv .1)) (l .inv .2) (quad-word _ _ _ _ _ (l .k) (c .before .before .before .quad .ensures) (omega (arith, room, s .pre .0, l .inv .1, l .inv .2 .len)) (c .before .before .put-quad .ensures)))
+loop-again c = let s = c .before .before .before .before .before .before .before .before .before .before .before .before .before .before in
+    let l = c .before .before .before .before .before .before .before .before .before .before .before .loop in
+    let first = word-turn _ _ 1 (s .args .at) (l .q) (s .args .at + 4 * l .q) (omega arith) _ _ _ (omega (arith, s .pre .0, c .before .before .before .before .before .before .before .before .before .before .loop-test .taken)) (l .inv .2) (c .before .before .before .before .before .before .before .quad-word .ensures) in
+    let second = word-turn _ _ 1 (s .args .at) (l .q + 1) (s .args .at + 4 * l .q + 4) (omega arith) _ _ _ (omega (arith, s .pre .0, l .inv .1, c .before .before .before .before .before .before .before .before .before .before .loop-test .taken)) first (c .before .before .quad-word2 .ensures) in
+    let e : s .args .at + 4 * l .q + 4 + 4 * 1 ≡ s .args .at + 4 * (l .q + 2) = omega arith in
+    (omega (arith, l .inv .1, c .before .before .before .before .before .before .before .before .before .before .loop-test .taken), omega (arith, l .inv .1), rw e at second)
+
+mul-quad-word-5 : tie.Need-mul-quad-word-5 Inv-loop μ-loop
+mul-quad-word-5 c = omega (arith, c .before .before .before .before .before .before .pre .0, c .before .if1 .taken)
+
+add-quad-word-5 : tie.Need-add-quad-word-5 Inv-loop μ-loop
+add-quad-word-5 c = omega (arith, c .before .before .before .before .before .before .pre .0, c .before .if1 .taken)
+
+mul-quad-word-6 : tie.Need-mul-quad-word-6 Inv-loop μ-loop
+mul-quad-word-6 c = omega (arith, c .before .before .before .before .before .before .pre .0, c .before .if1 .taken)
+
+shared-slice-read-quad-word-3 : tie.Need-shared-slice-read-quad-word-3 Inv-loop μ-loop
+shared-slice-read-quad-word-3 c = omega (arith, c .before .before .before .before .before .before .before .pre .0, c .before .before .if1 .taken)
+
+quad-word-requires-3 : tie.Need-quad-word-requires-3 Inv-loop μ-loop
+quad-word-requires-3 c κs = (omega (arith, c .before .before .before .before .before .before .before .pre .0, c .before .before .before .before .loop .inv .2 .len, c .before .before .if1 .taken), c .before .before .before .before .before .before .before .pre .1)
 
 same-length : tie.Need-same-length Inv-loop μ-loop
 same-length c = search needs
 
 returns : tie.Need-returns Inv-loop μ-loop
-returns c = let s = c .before .before .before .before in
-    let l = c .before .loop in
-    let e : l .q ≡ length (s .args .video .now) = omega (arith, l .inv .0) in
-    let k : l .k ≡ s .args .at + length (s .args .video .now) * (4 * 1) = l .inv .1 ∙ ap (λ (n : ℕ). s .args .at + n * (4 * 1)) e in paints-painted (s .pre .0) (rw k at (l .inv .2))
+returns c = let s = c .before .before .before .before .before .before .before .before .before .before in
+    let l = c .before .before .before .before .before .before .before .loop in
+    let last = word-turn _ _ 1 (s .args .at) (l .q) (s .args .at + 4 * l .q) (omega arith) _ _ _ (omega (arith, s .pre .0, c .before .before .before .before .before .if1 .taken)) (l .inv .2) (c .before .before .quad-word3 .ensures) in
+    let e : s .args .at + 4 * l .q + 4 * 1 ≡ s .args .at + length (s .args .video .now) * (4 * 1) = omega (arith, c .before .before .before .before .before .if1 .taken, c .before .before .before .before .before .before .loop-test .left) in
+    paints-painted (s .pre .0) (rw e at last)
+
+same-length-2 : tie.Need-same-length-2 Inv-loop μ-loop
+same-length-2 c = search needs
+
+returns-2 : tie.Need-returns-2 Inv-loop μ-loop
+returns-2 c = let s = c .before .before .before .before .before in
+    let l = c .before .before .loop in
+    let e : s .args .at + 4 * l .q ≡ s .args .at + length (s .args .video .now) * (4 * 1) = omega (arith, c .if1 .left, l .inv .0) in
+    paints-painted (s .pre .0) (rw e at (l .inv .2))
 
 pub quad-words-spec : {M : Type 1} → statement M
 quad-words-spec =
@@ -66,14 +117,29 @@ quad-words-spec =
     (tie.spec
     Inv-loop
     μ-loop
+    sub-even
     loop-holds
-    mul-quad
-    shared-slice-read-quad
-    quad-requires
-    put-quad-requires
-    add-k
+    mul-quad-word
+    add-quad-word
+    mul-quad-word-2
+    shared-slice-read-quad-word
+    quad-word-requires
+    mul-quad-word-3
+    add-quad-word-2
+    add-quad-word-3
+    add-quad-word-4
+    mul-quad-word-4
+    shared-slice-read-quad-word-2
+    quad-word-requires-2
     add-q
     loop-less
     loop-again
+    mul-quad-word-5
+    add-quad-word-5
+    mul-quad-word-6
+    shared-slice-read-quad-word-3
+    quad-word-requires-3
     same-length
-    returns)
+    returns
+    same-length-2
+    returns-2)
