@@ -2,7 +2,7 @@
 use Prim.Native.Nat.{ℕ, _+_, _*_, _-_, _/_, _%_, _^_, _<_, _≤_}
 use mathlib.Core.List.{List}
 use mathlib.Core.Path.{_≡_, _∙_, ap}
-use native.Mathlib.Nat.{add-mul, div-one, one-mul, zero-mul, mod-lt}
+use native.Mathlib.Nat.{add-mul, div-one, one-mul, zero-mul, mod-lt, div-le-self}
 use native.Mathlib.Omega.{arith}
 use lib.Bits.{bitAnd, and-mask}
 use lib.ListN.{getD}
@@ -10,8 +10,9 @@ use lib.Pow.{pow-pos, pow-mono, shl-exact, shr-shr}
 use Rattle.registers.proofs.Accepted.{Depth}
 use Rattle.registers.proofs.Words.{depth-most}
 use Rattle.marks.specs.Count.{total}
-use Rattle.marks.specs.Bright.{AtMost, fieldBright}
+use Rattle.marks.specs.Bright.{Tabled, AtMost, fieldBright, byteBright}
 use Rattle.marks.proofs.Totals.{total-more, total-most}
+use Rattle.marks.proofs.Tabled.{tabled-most}
 
 one-shifted : (d : ℕ) → Depth d → 1 * 2 ^ d % 2 ^ 32 ≡ 2 ^ d
 one-shifted d h = shl-exact {a = 1} 1 d 32 (omega arith) (omega (arith, depth-most h)) ∙ one-mul (2 ^ d)
@@ -40,3 +41,8 @@ module _ (pixels : List ℕ) (d byte : ℕ) where
 
   pub byte-most : (j : ℕ) → AtMost pixels 1 → total (fieldBright pixels d byte) j ≤ j
   byte-most j m = omega (arith, total-most (fieldBright pixels d byte) 1 j (λ k l. m .most (byte / 2 ^ (k * d) % 2 ^ d)))
+
+-- A byte has at most eight pixels.
+pub bytes-most : (pixels : List ℕ) (d : ℕ) {bytes : List ℕ} → AtMost pixels 1 → Tabled bytes 256 (byteBright pixels d) → AtMost bytes 255
+unfolding byteBright
+bytes-most pixels d m t = tabled-most t (λ byte. omega (arith, byte-most pixels d byte (8 / d) m, div-le-self 8 d))

@@ -1,5 +1,5 @@
 -- Tables filled entry by entry.
-use Prim.Native.Nat.{ℕ, _+_, _<_, _≤_}
+use Prim.Native.Nat.{ℕ, _+_, _/_, _%_, _<_, _≤_}
 use mathlib.Core.Bool.{Bool, true, false}
 use mathlib.Core.List.{List}
 use mathlib.Core.Path.{_≡_, refl, sym, _∙_, ap}
@@ -10,10 +10,10 @@ use lib.Dec.{leb, ltb}
 use lib.ListN.{getD, set, length-set, List·getD-eq-default}
 use lib.Seq.{getD-set-same, getD-set-other}
 use Rattle.registers.specs.declared.record.Registers.{Registers}
-use Rattle.colours.specs.Colour.{colourOf}
+use Rattle.colours.specs.Colour.{shownOf, colourOf}
 use Rattle.colours.specs.Grey.{greyOf}
 use Rattle.marks.specs.Count.{bit}
-use Rattle.marks.specs.Bright.{Tabled, AtMost, bright}
+use Rattle.marks.specs.Bright.{Tabled, AtMost, lit, bright, wordBright}
 
 pub tabled-more : {table : List ℕ} {k v : ℕ} {f : ℕ → ℕ} → Tabled table k f → k < 256 → v ≡ f k → Tabled (set table k v) (k + 1) f
 tabled-more {table} {k} {v} {f} t l e =
@@ -24,15 +24,15 @@ tabled-more {table} {k} {v} {f} t l e =
           (getD-set-same table k v 0 (omega (arith, t .len)) ∙ e);
     }
 
-module _ (g : Registers) (d threshold p c r : ℕ) (e : c ≡ colourOf g d p) (f : r ≡ greyOf c) where
-  as-grey : leb threshold r ≡ leb threshold (greyOf (colourOf g d p))
+module _ (entry d threshold p c r : ℕ) (e : c ≡ shownOf entry d p) (f : r ≡ greyOf c) where
+  as-grey : leb threshold r ≡ leb threshold (greyOf (shownOf entry d p))
   as-grey = ap (leb threshold) (f ∙ ap greyOf e)
 
-  pub bright-yes : threshold ≤ r → 1 ≡ bright g d threshold p
-  bright-yes l = ap bit (sym (le-leb threshold r l) ∙ as-grey)
+  pub lit-yes : threshold ≤ r → 1 ≡ lit entry d threshold p
+  lit-yes l = ap bit (sym (le-leb threshold r l) ∙ as-grey)
 
-  pub bright-no : r < threshold → 0 ≡ bright g d threshold p
-  bright-no l = ap bit (sym (lt-leb threshold r l) ∙ as-grey)
+  pub lit-no : r < threshold → 0 ≡ lit entry d threshold p
+  lit-no l = ap bit (sym (lt-leb threshold r l) ∙ as-grey)
 
 -- A whole table's bound is its rule's.
 pub tabled-most : {table : List ℕ} {f : ℕ → ℕ} {m : ℕ} → Tabled table 256 f → ((k : ℕ) → f k ≤ m) → AtMost table m
@@ -48,3 +48,7 @@ bit-most false = omega arith
 
 pub bright-most : (g : Registers) (d threshold : ℕ) {pixels : List ℕ} → Tabled pixels 256 (bright g d threshold) → AtMost pixels 1
 bright-most g d threshold t = tabled-most t (λ p. bit-most (leb threshold (greyOf (colourOf g d p))))
+
+pub word-most : (bytes : List ℕ) (w : ℕ) → AtMost bytes 255 → wordBright bytes w ≤ 1020
+word-most bytes w m =
+    omega (arith, m .most (w % 256), m .most (w / 0x100 % 256), m .most (w / 0x1_0000 % 256), m .most (w / 0x100_0000 % 256))

@@ -1,7 +1,7 @@
 -- Laws of sums: term by term, in parts, in rows, and within a window outside of which nothing counts.
-use Prim.Native.Nat.{ℕ, zero, suc, _+_, _*_, _<_, _≤_}
+use Prim.Native.Nat.{ℕ, zero, suc, _+_, _-_, _*_, _<_, _≤_}
 use mathlib.Core.Path.{_≡_, refl, ap, _∙_}
-use native.Mathlib.Nat.{add-assoc, add-zero, add-suc, suc-mul, zero-mul}
+use native.Mathlib.Nat.{add-assoc, zero-add, add-zero, add-suc, suc-mul, zero-mul}
 use native.Mathlib.Numerals.{add-one}
 use native.Mathlib.Omega.{arith}
 use Rattle.marks.specs.Count.{total}
@@ -13,13 +13,6 @@ total-more f n = rw add-one
 -- A loop's sum, one term further.
 pub sum-more : {sum v : ℕ} (f : ℕ → ℕ) (n : ℕ) → sum ≡ total f n → v ≡ f n → sum + v ≡ total f (n + 1)
 sum-more f n e h = rw (total-more f n, e, h)
-
--- Two sums, each with an element more.
-pub sums-more : (a b : ℕ) {v w : ℕ} (f : ℕ → ℕ) (n : ℕ) → a + b ≡ total f n → v ≡ f n → w ≡ f (n + 1) → a + v + (b + w) ≡ total f (n + 2)
-sums-more a b f n e h l =
-    let two : total f (n + 2) ≡ total f n + f n + f (n + 1) =
-    let k : n + 2 ≡ n + 1 + 1 = omega arith in rw k (total-more f (n + 1) ∙ rw (total-more f n)) in
-    omega (arith, e, h, l, two)
 
 pub total-as : (f h : ℕ → ℕ) (n : ℕ) → ((k : ℕ) → k < n → f k ≡ h k) → total f n ≡ total h n
 unfolding total
@@ -41,6 +34,18 @@ pub total-split : (f : ℕ → ℕ) (a b : ℕ) → total f (a + b) ≡ total f 
 unfolding total
 total-split f a zero = rw (add-zero, add-zero)
 total-split f a (suc b) = rw (add-suc, total-split f a b, add-assoc)
+
+-- A sum up to a, and the rest of it.
+pub parts-total : {sum rest : ℕ} (f : ℕ → ℕ) (a n : ℕ) → a ≤ n → sum ≡ total f a → rest ≡ total (λ k. f (a + k)) (n - a) → sum + rest ≡ total f n
+parts-total f a n l e h = rw (e, h, ← total-split f a (n - a)) (ap (total f) (omega arith))
+
+-- Four sums, each with an element more.
+pub sums-more : (a b c d : ℕ) {v w x y : ℕ} (f : ℕ → ℕ) (n : ℕ) → a + b + c + d ≡ total f n
+    → v ≡ f n → w ≡ f (n + 1) → x ≡ f (n + 2) → y ≡ f (n + 3) → a + v + (b + w) + (c + x) + (d + y) ≡ total f (n + 4)
+unfolding total
+sums-more a b c d f n e h i j k =
+    let four : total f (n + 4) ≡ total f n + (f n + f (n + 1) + f (n + 2) + f (n + 3)) = total-split f n 4 ∙ rw (zero-add, add-zero) in
+    omega (arith, e, h, i, j, k, four)
 
 -- v rows of n terms.
 pub total-rows : (f : ℕ → ℕ) (v n : ℕ) → total f (v * n) ≡ total (λ y. total (λ x. f (y * n + x)) n) v

@@ -8,17 +8,21 @@ use lib.Dec.{leb, eqb}
 use Rattle.buffers.specs.Pick.{pick}
 use Rattle.registers.specs.declared.record.Registers.{Registers}
 use Rattle.registers.specs.declared.setting.Setting.{Setting}
+use Rattle.registers.specs.Colours.{paletteOf}
 use Rattle.registers.specs.Setting.{videoWords, cursorWords}
 use Rattle.registers.proofs.Accepted.{Accepted}
-use Rattle.colours.specs.Colour.{colourOf}
+use Rattle.colours.specs.Colour.{shownOf}
 use Rattle.colours.specs.Grey.{greyOf}
 use Rattle.frame.specs.Pixel.{pixel, logical}
 use Rattle.frame.specs.Cell.{plainCode, covered}
 use Rattle.marks.specs.Count.{total, bit}
 
--- A pixel is bright if its grey is at or above the threshold.
+-- A pixel is bright if the grey that its entry shows is at or above the threshold.
+abbrev pub lit : ℕ → ℕ → ℕ → ℕ → ℕ
+lit e d threshold p = bit (leb threshold (greyOf (shownOf e d p)))
+
 abbrev pub bright : Registers → ℕ → ℕ → ℕ → ℕ
-bright g d threshold p = bit (leb threshold (greyOf (colourOf g d p)))
+bright g d threshold p = lit (paletteOf g p) d threshold p
 
 -- A table of 256 whose first n entries are given by a rule.
 pub record Tabled (table : List ℕ) (n : ℕ) (f : ℕ → ℕ) : Type 0 where
@@ -42,13 +46,16 @@ byteBright pixels d b = total (fieldBright pixels d b) (8 / d)
 abbrev pub pixelBright : List ℕ → List ℕ → ℕ → ℕ → ℕ
 pixelBright pixels ws d i = getD pixels (pixel ws d i) 0
 
--- A table of bytes, over the four bytes of a word, and over the words of a list.
+-- A table of bytes, over the four bytes of a word, over the words of a list, and from one of them on.
 abbrev pub wordBright : List ℕ → ℕ → ℕ
 wordBright bytes w =
     getD bytes (w % 256) 0 + getD bytes (w / 0x100 % 256) 0 + getD bytes (w / 0x1_0000 % 256) 0 + getD bytes (w / 0x100_0000 % 256) 0
 
 abbrev pub wordAt : List ℕ → List ℕ → ℕ → ℕ
 wordAt bytes ws k = wordBright bytes (getD ws k 0)
+
+abbrev pub wordFrom : List ℕ → List ℕ → ℕ → ℕ → ℕ
+wordFrom bytes ws from k = wordAt bytes ws (from + k)
 
 -- Position x of raster y, where code 5 would apply and the cursor covers it.
 abbrev pub coveredBright : Setting → List ℕ → List ℕ → List ℕ → ℕ → ℕ → ℕ

@@ -1,6 +1,5 @@
 // Bright pixels that the cursor covers: at most 32 positions of each of its rasters.
 use crate::pixels::pixel_at;
-use crate::walk::entry;
 use registers::setting::Setting;
 ghost use mathlib.Core.Path.{_≡_};
 ghost use Prim.Native.Nat.{_+_, _*_, _/_, _%_, _^_, _<_, _≤_};
@@ -17,6 +16,20 @@ fn place(s: Setting, x: usize, y: usize) -> usize
     ensures { λ r. ⌜ r ≡ position s x y ⌝ }
 {
     (y - s.vds.0 as usize) * (s.de.0 as usize - s.ds.0 as usize) + (x - s.ds.0 as usize)
+}
+
+fn wide(x: u8) -> u32
+    ensures { λ r. ⌜ (r ≡ x) × (r ≤ 255) ⌝ }
+{
+    x as u32
+}
+
+// A table's entry.
+fn entry(table: &[u8; 256], at: usize) -> u32
+    requires { ⌜ at < 256 ⌝ }
+    ensures { λ r. ⌜ (r ≡ getD (now (table .entry)) at 0) × (r ≤ 255) ⌝ }
+{
+    wide(table[at])
 }
 
 // What the table has for the pixel of a displayed position.

@@ -1,5 +1,6 @@
 use Rattle.marks.proofs.Counted.{counted}
 use Rattle.marks.proofs.Tabled.{bright-most}
+use Rattle.marks.proofs.Masks.{bytes-most}
 use Rattle.registers.proofs.Words.{video-most}
 use native.Mathlib.Omega.{arith}
 use borrow.Author.Needs.{needs}
@@ -15,7 +16,11 @@ bright-bytes-requires c κs =
     (s .pre .accepted .depth, bright-most (s .args .g) (s .args .s .depth) (s .args .threshold) (c .before .bright-pixels .ensures))
 
 in-words-requires : tie.Need-in-words-requires
-in-words-requires c κs = let s = c .before .before .before .before .before .before in omega (arith, video-most (s .args .s) (s .pre .accepted), s .pre .video-words)
+in-words-requires c κs =
+    let s = c .before .before .before .before .before .before in (
+      bytes-most _ _ (bright-most (s .args .g) (s .args .s .depth) (s .args .threshold) (c .before .before .before .bright-pixels .ensures)) (c .before .bright-bytes .ensures),
+      omega (arith, video-most (s .args .s) (s .pre .accepted), s .pre .video-words),
+    )
 
 covered-requires : tie.Need-covered-requires
 covered-requires c κs = search needs

@@ -21,6 +21,9 @@ cast-at c = omega arith
 in-byte-requires : tie.Need-in-byte-requires Inv-loop μ-loop
 in-byte-requires c κs = c .before .before .pre
 
+mul-table : tie.Need-mul-table Inv-loop μ-loop
+mul-table c = omega arith
+
 array-write-table : tie.Need-array-write-table Inv-loop μ-loop
 array-write-table c = omega arith
 
@@ -45,6 +48,7 @@ bright-bytes-spec =
     loop-holds
     cast-at
     in-byte-requires
+    mul-table
     array-write-table
     add-k
     loop-less

@@ -28,6 +28,9 @@ low-bits-requires c κs = c .before .before .pre .0
 element-copy-out-sum : tie.Need-element-copy-out-sum Inv-loop μ-loop
 element-copy-out-sum c = rw (c .low-bits .ensures) (bits-below _ _ (c .before .before .before .pre .0))
 
+cast-sum : tie.Need-cast-sum Inv-loop μ-loop
+cast-sum c = omega (arith, c .before .before .before .before .pre .1 .most (c .before .low-bits .result))
+
 add-sum : tie.Need-add-sum Inv-loop μ-loop
 add-sum c =
     let s = c .before .before .before .before in
@@ -73,6 +76,7 @@ in-byte-spec =
     loop-holds
     low-bits-requires
     element-copy-out-sum
+    cast-sum
     add-sum
     shr-rest
     add-j
