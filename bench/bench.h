@@ -27,7 +27,6 @@ static inline uint32_t grey(uint16_t colour) { return 17 * ((colour & 15) + (col
 void cells_gcc(const struct picture *, uint16_t *out);
 void stretches_gcc(const struct picture *, uint16_t *out);
 void stretches_clang(const struct picture *, uint16_t *out);
-void lines_gcc(const struct picture *, uint16_t *out);
 void lines_clang(const struct picture *, uint16_t *out);
 void stretches_rust(const struct picture *, uint16_t *out);
 

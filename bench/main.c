@@ -1,5 +1,7 @@
 // Times ours and the baselines on the same inputs and prints one table: how many times as fast ours is.
 // main PRINTER PLATE: PRINTER is our program, PLATE a file that is written for it.
+// main lines: only how many times as fast our frame is as by lines with clang, for each size and depth: in the middle of many
+// paired times, and by best times.
 #include "bench.h"
 #include <fcntl.h>
 #include <spawn.h>
@@ -12,7 +14,7 @@
 
 extern char **environ;
 
-enum { LARGEST = 2048 * 1024, PLATE = 4194304, PLATE_WORDS = PLATE / 4 - 4, SOUNDS = 16384, MOST_RUNS = 9 };
+enum { LARGEST = 2048 * 1024, PLATE = 4194304, PLATE_WORDS = PLATE / 4 - 4, SOUNDS = 16384, MOST_RUNS = 7, MOST_ROUNDS = 1000 };
 
 // All write to the same places, and what ours wrote is kept to be compared.
 static uint32_t values[64], noise[PLATE_WORDS], words_out[PLATE_WORDS], words_kept[PLATE_WORDS];
@@ -100,7 +102,6 @@ static void ours_write(void) {
 
 static void per_cell(void) { cells_gcc(&pic, cells); }
 static void tuned_gcc(void) { stretches_gcc(&pic, cells); }
-static void by_lines_gcc(void) { lines_gcc(&pic, cells); }
 static void rust(void) { stretches_rust(&pic, cells); }
 static void set_cells(void) { memset(cells, 1, 2 * pic.n * pic.v); }
 static void count_cells(void) { marks = count_gcc(&pic, 128); }
@@ -180,7 +181,6 @@ static void same_frames(void) {
     same_frame(per_cell, "the cell by cell frame differs");
     same_frame(tuned_gcc, "the frame of stretches by gcc differs");
     same_frame(tuned_clang, "the frame of stretches by clang differs");
-    same_frame(by_lines_gcc, "the frame of lines by gcc differs");
     same_frame(by_lines_clang, "the frame of lines by clang differs");
     same_frame(rust, "the Rust frame differs");
     ours_marks();
@@ -260,11 +260,9 @@ static void time_frames(void) {
         void (*set)(uint32_t depth);
         int rounds;
     } sizes[3] = {{"1024 x 312", usual, 400}, {"2048 x 1024", largest, 60}, {"1024 x 1", smallest, 400}};
-    work *const runs[MOST_RUNS] = {ours_frame, by_wrapper, per_cell, tuned_gcc, tuned_clang, rust, set_cells, by_lines_gcc,
-                                   by_lines_clang};
-    printf("%-26s %9s %9s %9s %9s %9s %9s %9s %9s %9s\n", "frame", "ours us", "ours by", "per cell", "tuned", "tuned", "Rust",
-           "memset", "lines", "lines");
-    printf("%-26s %9s %9s %9s %9s %9s %9s %9s %9s %9s\n", "", "", "wrapper", "gcc", "gcc", "clang", "", "", "gcc", "clang");
+    work *const runs[MOST_RUNS] = {ours_frame, by_wrapper, per_cell, tuned_gcc, tuned_clang, rust, set_cells};
+    printf("%-26s %9s %9s %9s %9s %9s %9s %9s\n", "frame", "ours us", "ours by", "per cell", "tuned", "tuned", "Rust", "memset");
+    printf("%-26s %9s %9s %9s %9s %9s\n", "", "", "wrapper", "gcc", "gcc", "clang");
     for (int size = 0; size < 3; size++)
         for (int i = 0; i < 4; i++) {
             char name[64];
@@ -273,6 +271,41 @@ static void time_frames(void) {
             same_frames();
             row(name, runs, MOST_RUNS, sizes[size].rounds);
         }
+}
+
+static int by_size(const void *a, const void *b) {
+    double x = *(const double *)a, y = *(const double *)b;
+    return (x > y) - (x < y);
+}
+
+static double time_of(work *run) {
+    double t = seconds();
+    run();
+    run();
+    return seconds() - t;
+}
+
+static void print_lines(void) {
+    static const struct {
+        void (*set)(uint32_t depth);
+        int rounds;
+    } sizes[2] = {{usual, MOST_ROUNDS}, {largest, 100}};
+    static double pairs[MOST_ROUNDS];
+    for (int size = 0; size < 2; size++)
+        for (int i = 0; i < 4; i++) {
+            double ours = 1, theirs = 1;
+            sizes[size].set(depths[i]);
+            same_frames();
+            for (int r = 0; r < sizes[size].rounds; r++) {
+                double a = time_of(ours_frame), b = time_of(by_lines_clang);
+                if (a < ours) ours = a;
+                if (b < theirs) theirs = b;
+                pairs[r] = b / a;
+            }
+            qsort(pairs, sizes[size].rounds, sizeof *pairs, by_size);
+            printf("%.4f %.4f ", pairs[sizes[size].rounds / 2], theirs / ours);
+        }
+    printf("\n");
 }
 
 static void time_marks(void) {
@@ -316,12 +349,18 @@ static void time_plates(void) {
 }
 
 int main(int count, char **words) {
-    if (count != 3) die("usage: main PRINTER PLATE");
     uint32_t x = 1986;
     for (size_t i = 0; i < PLATE_WORDS; i++) {
         x ^= x << 13, x ^= x >> 17, x ^= x << 5;
         noise[i] = x;
     }
+#ifdef CLANG
+    if (count == 2 && !strcmp(words[1], "lines")) {
+        print_lines();
+        return 0;
+    }
+#endif
+    if (count != 3) die("usage: main PRINTER PLATE, or main lines");
     printf("best times in microseconds, and how many times as fast ours is as each other\n\n");
     time_frames();
     time_marks();
