@@ -16,6 +16,7 @@ use Rattle.sound.specs.declared.Sides.{Sides}
 use Rattle.registers.specs.Sound.{soundTold}
 use Rattle.registers.specs.declared.record.Registers.{Registers}
 use Rattle.sound.specs.Play.{playTold, playLeaves, playCounts}
+use Rattle.sound.proofs.Accepted.{play-rows}
 use Rattle.c_calls.specs.Code.{codeOf, withRoom}
 use Rattle.c_calls.specs.Record.{lacking, recordOf, recordTold}
 use Rattle.c_calls.specs.Settings.{checkSoundCall}
@@ -40,9 +41,8 @@ judged-thirteen places words n d e = go (ltb places (8 * words)) e
 
 same-unheard : (t : Told Registers) (words places room : ℕ) → room < 1
     → withRoom 1 0 (andThen t soundTold) ≡ withRoom 1 room (andThen t (λ g. playTold g words places))
-unfolding playTold
 same-unheard (refused n d) words places room h = refl
-same-unheard (given g) words places room h = unheard-by (soundTold g) room _ h (judged-thirteen places words)
+same-unheard (given g) words places room h = rw (play-rows g words places) (unheard-by (soundTold g) room _ h (judged-thirteen places words))
 
 module _ (values written words : List ℕ) (counter : ℕ) (out : List ℤ) (after : List ℕ) where
   abbrev pub Sounded : ℕ → List ℤ → List ℕ → Type 0

@@ -11,6 +11,7 @@ use lib.Seq.{sets}
 use Rattle.registers.specs.Table.{Told, given, refused, row, judged}
 use Rattle.plates.specs.Plate.{mostBytes, plateLength}
 use Rattle.plates.specs.Write.{writeTold, writeLeaves}
+use Rattle.plates.proofs.Calls.{write-rows}
 use Rattle.c_calls.specs.Code.{codeOf, withRoom}
 use Rattle.c_calls.specs.Files.{writeCall, plateLeaves, lengthBy, lengthLeaves}
 use Rattle.c_calls.proofs.Answers.{short, Refuses, room-short}
@@ -44,12 +45,15 @@ module _ (rs vs cs ss : List ℕ) where
     length-short (refused n d) h = refl
 
     pub write-unmeasured : (r : ℕ) → length size < 1 → r ≡ codeOf (writeCall rs vs cs ss 1 0) → Written r out size
-    unfolding writeCall plateLeaves lengthLeaves writeTold
-    write-unmeasured r h k = (
-      k ∙ ap codeOf (unmeasured-by (ltb mostBytes (plateLength rs vs cs ss)) (ltb 1 (plateLength rs vs cs ss)) (ltb (length out) (plateLength rs vs cs ss)) (plateLength rs vs cs ss) 0 (length size) (omega arith) h),
-      room-short 1 (length size) (writeTold rs vs cs ss (length out)) out _ h,
-      length-short (writeTold rs vs cs ss (length out)) h,
-    )
+    unfolding writeCall plateLeaves lengthLeaves
+    write-unmeasured r h k =
+        let n = plateLength rs vs cs ss in
+        let same : withRoom 1 0 (writeTold rs vs cs ss 1) ≡ withRoom 1 (length size) (writeTold rs vs cs ss (length out)) =
+        rw (write-rows rs vs cs ss 1, write-rows rs vs cs ss (length out)) (unmeasured-by (ltb mostBytes n) (ltb 1 n) (ltb (length out) n) n 0 (length size) (omega arith) h) in (
+          k ∙ ap codeOf same,
+          room-short 1 (length size) (writeTold rs vs cs ss (length out)) out _ h,
+          length-short (writeTold rs vs cs ss (length out)) h,
+        )
 
     pub write-refused : (n d r : ℕ) (o : List ℕ) → 1 ≤ length size → writeTold rs vs cs ss (length out) ≡ refused n d
         → o ≡ writeLeaves rs vs cs ss out → Refuses n d r → Written r o size

@@ -1,7 +1,7 @@
 -- Entries that differ in no shown bit: what they have in common at each depth.
 use Prim.Native.Nat.{ℕ, zero, suc, _+_, _*_, _/_, _%_, _^_, _<_}
 use mathlib.Core.Path.{_≡_, refl, sym, _∙_, ap}
-use mathlib.Core.Bool.{Bool, true, false, _&&_, _||_, not}
+use mathlib.Core.Bool.{Bool, true, false, _&&_, not}
 use mathlib.Core.Logic.{_⊎_, inl, inr}
 use native.Mathlib.Nat.{mod-lt, div-one}
 use native.Mathlib.Omega.{arith}
@@ -10,15 +10,12 @@ use lib.Dec.{eqb}
 use lib.Pow.{shr-shr, shr-lt, mod-pow-add}
 use borrow.Author.Tests.{not-false, eqb-true, eqb-false, eq-eqb, lt-ltb}
 use Rattle.buffers.proofs.Split.{lt-or-le, true-or-false}
+use Rattle.buffers.proofs.Tests.{or-neither}
 use Rattle.colours.specs.Colour.{mixed}
 use Rattle.claims.specs.Shown.{isShown, bitOf, anyBelow, differ}
 
 pub by-cases : (p q : ℕ) → (p ≡ q) ⊎ (p ≡ q → ⊥)
 by-cases p q = elim (true-or-false (eqb p q)) [ inl e ↦ inl (eqb-true p q e) | inr e ↦ inr (eqb-false p q e) ]
-
-or-false : (a b : Bool) → a || b ≡ false → (a ≡ false) × (b ≡ false)
-or-false true b e = let never : true ≡ false = e in (e, cc)
-or-false false b e = (refl, e)
 
 -- A test that holds of no number below n.
 any-false : (test : ℕ → Bool) (n b : ℕ) → anyBelow test n ≡ false → b < n → test b ≡ false
@@ -26,10 +23,10 @@ unfolding anyBelow
 any-false test zero b e h = absurd (omega arith)
 any-false test (suc n) b e h =
     elim (lt-or-le b n) [
-      | inl l ↦ any-false test n b (or-false (test n) (anyBelow test n) e .1) l
+      | inl l ↦ any-false test n b (or-neither (test n) (anyBelow test n) e .1) l
       | inr l ↦
           let q : b ≡ n = omega arith in
-          rw q (or-false (test n) (anyBelow test n) e .0)
+          rw q (or-neither (test n) (anyBelow test n) e .0)
     ]
 
 false-any : (test : ℕ → Bool) (n : ℕ) → ((b : ℕ) → b < n → test b ≡ false) → anyBelow test n ≡ false

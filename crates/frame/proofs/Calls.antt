@@ -1,13 +1,14 @@
 -- The public calls: the rows after the setting's, and what the lent cells hold.
-use Prim.Native.Nat.{ℕ, _*_, _≤_}
-use mathlib.Core.Bool.{Bool, true, false, _||_, not}
-use mathlib.Core.Path.{_≡_, refl, _∙_}
+use Prim.Native.Nat.{ℕ, _*_, _≤_, _<_}
+use mathlib.Core.Bool.{false, not}
+use mathlib.Core.Path.{_≡_, _∙_}
 use mathlib.Core.List.{List}
 use native.Mathlib.Nat.{mul-le-mul}
-use borrow.Author.Tests.{not-false, eqb-true}
+use borrow.Author.Tests.{not-false, eqb-true, le-ltb, lt-leb}
 use lib.Dec.{eqb}
 use lib.ListN.{length}
 use Rattle.buffers.specs.Painted.{painted}
+use Rattle.buffers.proofs.Tests.{or-neither}
 use Rattle.registers.specs.Table.{Told, given, refused, judged, unlessRefused}
 use Rattle.registers.specs.Setting.{videoWords, cursorWords}
 use Rattle.registers.specs.Check.{checkTold}
@@ -21,14 +22,10 @@ use Rattle.frame.specs.Lent.{Lent}
 pub cells-most : (s : Setting) → Accepted s → cells s ≤ 2048 * 1024
 cells-most s a = mul-le-mul {n₂ = 2048} {m₂ = 1024} (a .n-most) (a .v-most)
 
-neither : (a b : Bool) → a || b ≡ false → (a ≡ false) × (b ≡ false)
-neither true b e = let never : true ≡ false = e in (e, cc)
-neither false b e = (refl, e)
-
 -- Row 11 is passed exactly by lists of the right lengths.
 pub words-right : (s : Setting) (video cursor : List ℕ) → wordsWrong s video cursor ≡ false → (length video ≡ videoWords s) × (length cursor ≡ cursorWords s)
 words-right s video cursor e =
-    let h = neither (not (eqb (length video) (videoWords s))) (not (eqb (length cursor) (cursorWords s))) e in
+    let h = or-neither (not (eqb (length video) (videoWords s))) (not (eqb (length cursor) (cursorWords s))) e in
     (eqb-true _ _ (not-false _ (h .0)), eqb-true _ _ (not-false _ (h .1)))
 
 pub lent-by : {s : Setting} {end : ℕ} {video cursor out : List ℕ} → Accepted s → end ≤ length out → wordsWrong s video cursor ≡ false → Lent s end video cursor out
@@ -56,3 +53,13 @@ module _ (g : Registers) (video cursor o : List ℕ) where
   unfolding rasterTold rasterHeld
   raster-judged y s t p e f h =
       (rw e f, rw e (h ∙ rw (f, ← accepted-setting g s e)))
+
+-- A raster of lists that are right.
+module _ (g : Registers) (s : Setting) (video cursor : List ℕ) (y : ℕ) (e : checkTold g ≡ given s) (w : wordsWrong s video cursor ≡ false) (here : y < s .v .0) where
+  raster-told : (room : ℕ) → s .n .0 ≤ room → rasterTold g video cursor y room ≡ given tt
+  unfolding rasterTold
+  raster-told room h = rw (e, w, lt-leb _ _ here, le-ltb _ _ h)
+
+  pub raster-held : (o : List ℕ) → s .n .0 ≤ length o → rasterHeld g video cursor y o ≡ painted o 0 (s .n .0) (rasterCell g s video cursor y)
+  unfolding rasterHeld
+  raster-held o h = rw (raster-told (length o) h, ← accepted-setting g s e)

@@ -1,14 +1,9 @@
 -- What the mark count tells, from what the check and the words tell.
 use Prim.Native.Nat.{ℕ}
-use mathlib.Core.Bool.{Bool, true, false, _||_, not}
+use mathlib.Core.Bool.{Bool, true, false}
 use mathlib.Core.List.{List}
-use mathlib.Core.Path.{_≡_, refl, sym, _∙_, ap}
-use borrow.Author.Tests.{eqb-true}
-use lib.Dec.{eqb}
-use lib.ListN.{length}
-use Rattle.buffers.proofs.Tests.{no}
+use mathlib.Core.Path.{_≡_, sym, _∙_, ap}
 use Rattle.registers.specs.Table.{given, refusal}
-use Rattle.registers.specs.Setting.{videoWords, cursorWords}
 use Rattle.registers.specs.Check.{checkTold, checkSays}
 use Rattle.registers.specs.declared.record.Registers.{Registers}
 use Rattle.registers.specs.declared.setting.Setting.{Setting}
@@ -18,13 +13,9 @@ use Rattle.registers.specs.declared.check.Checked.{Checked}
 use Rattle.registers.specs.declared.check.Checked.the-variants as checked
 use Rattle.registers.proofs.Accepted.{accepted}
 use Rattle.frame.specs.Frame.{wordsWrong}
+use Rattle.frame.proofs.Calls.{words-right}
 use Rattle.marks.specs.Marks.{marksOf, marksTold}
 use Rattle.marks.specs.Bright.{Ready}
-
-neither : (a b : Bool) → (not a || not b) ≡ false → (a ≡ true) × (b ≡ true)
-neither true true e = (refl, refl)
-neither true false e = (refl, sym e)
-neither false b e = (sym e, absurd (no (sym e)))
 
 module _ (g : Registers) (video cursor : List ℕ) (threshold : ℕ) (x : Checked) (c : checkSays x ≡ checkTold g) where
   pub marks-refused : {why : Refusal} → x ≡ checked.Refused why → refusal why ≡ marksTold g video cursor threshold
@@ -45,9 +36,11 @@ module _ (g : Registers) (video cursor : List ℕ) (threshold : ℕ) (x : Checke
 
     pub ready : wrong ≡ false → Ready s video cursor
     ready t =
-        let n = neither (eqb (length video) (videoWords s)) (eqb (length cursor) (cursorWords s)) (sym w ∙ t) in
-        record {
-          accepted = accepted g s told;
-          video-words = eqb-true (length video) (videoWords s) (n .0);
-          cursor-words = eqb-true (length cursor) (cursorWords s) (n .1);
-        }
+        let n = words-right s video cursor (sym w ∙ t) in
+        record { accepted = accepted g s told; video-words = n .0; cursor-words = n .1 }
+
+-- The same of a record whose check and words are known.
+pub marks-told : (g : Registers) (s : Setting) (video cursor : List ℕ) (threshold : ℕ) → checkTold g ≡ given s → wordsWrong s video cursor ≡ false
+    → marksTold g video cursor threshold ≡ given (marksOf g s video cursor threshold)
+unfolding marksTold
+marks-told g s video cursor threshold e w = rw (e, w)

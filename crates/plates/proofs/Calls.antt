@@ -1,19 +1,20 @@
 -- From what a call's parts tell to what the call tells.
 use mathlib.Core.Path.{_≡_, refl, _∙_, ap}
 use mathlib.Core.Bool.{Bool, true, false, not}
-use mathlib.Core.List.{List}
+use mathlib.Core.List.{List, [], _∷_}
 use Prim.Native.Nat.{ℕ, _*_, _≤_, _<_}
 use native.Mathlib.Omega.{arith}
 use lib.ListN.{length, take}
 use lib.Seq.{sets}
-use lib.Dec.{leb}
+use lib.Dec.{leb, ltb}
 use borrow.Author.Tests.{lt-ltb, le-ltb, leb-true}
 use Rattle.buffers.specs.Pick.{pick}
 use Rattle.buffers.specs.Words.{wordsOf}
 use Rattle.buffers.proofs.Tests.{and-split}
-use Rattle.registers.specs.Table.{Told, given, refused, unlessRefused}
-use Rattle.plates.specs.Plate.{mostBytes, lengthRule, trailerRule, right, rOf, vOf, cOf, sOf, sectionsOf}
+use Rattle.registers.specs.Table.{Told, given, refused, row, judged, unlessRefused}
+use Rattle.plates.specs.Plate.{mostBytes, plateLength, lengthRule, trailerRule, right, rOf, vOf, cOf, sOf, sectionsOf}
 use Rattle.plates.specs.Read.{trailerTold, readTold, copyTold, copied}
+use Rattle.plates.specs.Write.{writeTold}
 use Rattle.plates.specs.declared.Sections.{Sections}
 use Rattle.plates.proofs.Rule.{Ordered, ordered}
 
@@ -75,3 +76,9 @@ pub copy-refused :
     → (refused n d ≡ copyTold file (length out)) × (out ≡ unlessRefused (copyTold file (length out)) out after)
 unfolding copyTold
 copy-refused file n d out after e = (rw (← e), rw (← e))
+
+-- The rows of writing.
+pub write-rows : (rs vs cs ss : List ℕ) (places : ℕ) → writeTold rs vs cs ss places
+    ≡ judged (row 15 (ltb mostBytes (plateLength rs vs cs ss)) 0 ∷ row 13 (ltb places (plateLength rs vs cs ss)) 0 ∷ []) (plateLength rs vs cs ss)
+unfolding writeTold
+write-rows rs vs cs ss places = refl

@@ -8,3 +8,4 @@ pub mod Accepted
 pub mod Told
 pub mod Unique
 pub mod Words
+pub mod Heard

@@ -15,6 +15,10 @@ depth-least h = ⊎-elim (λ e. omega arith) (⊎-elim (λ e. omega arith) (⊎-
 pub depth-most : {d : ℕ} → Depth d → d ≤ 8
 depth-most h = ⊎-elim (λ e. omega arith) (⊎-elim (λ e. omega arith) (⊎-elim (λ e. omega arith) (λ e. omega arith))) h
 
+pub raster-words : (s : Setting) → rasterWords s ≡ (s .de .0 - s .ds .0) * s .depth / 32
+unfolding rasterWords
+raster-words s = refl
+
 module _ (s : Setting) (a : Accepted s) where
   pub raster-bits : rasterWords s * 32 ≡ (s .de .0 - s .ds .0) * s .depth
   unfolding rasterWords

@@ -4,6 +4,7 @@ pub mod Stored
 pub mod Puts
 pub mod Sheets
 pub mod Texts
+pub mod Lines
 pub mod Pictures
 pub mod Unique
 pub mod Waves

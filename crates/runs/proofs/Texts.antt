@@ -7,7 +7,7 @@ use native.Mathlib.Nat.{zero-add, sub-zero}
 use native.Mathlib.Omega.{arith}
 use lib.ListN.{length, take, getD}
 use lib.Seq.{ext-getD, getD-take, length-take-le}
-use borrow.Author.Tests.{le-ltb, lt-leb, le-leb, eq-eqb, ne-eqb}
+use borrow.Author.Tests.{lt-leb, le-leb, eq-eqb, ne-eqb}
 use Rattle.buffers.specs.Painted.{painted}
 use Rattle.buffers.proofs.Paints.{paints-of, length-painted}
 use Rattle.registers.specs.Table.{Told, given, refused, judged, row, andThen, numberOf, detailOf}
@@ -17,10 +17,11 @@ use Rattle.registers.specs.declared.refusal.Refusal.{Refusal}
 use Rattle.registers.specs.declared.setting.Setting.{Setting}
 use Rattle.registers.specs.declared.check.Checked.the-variants as checked
 use Rattle.registers.proofs.Tables.{never, given-passes}
-use Rattle.registers.proofs.Exactly.{accepted-setting}
 use Rattle.registers.proofs.Accepted.{Accepted, accepted}
-use Rattle.frame.specs.Frame.{wordsWrong, rasterCell, rasterTold, rasterHeld}
+use Rattle.frame.specs.Frame.{wordsWrong, rasterCell, rasterHeld}
+use Rattle.frame.proofs.Calls.{raster-held}
 use Rattle.marks.specs.Marks.{marksOf, marksTold, marksSays}
+use Rattle.marks.proofs.Answers.{marks-told}
 use Rattle.marks.specs.declared.answer.Marks.{Marks}
 use Rattle.marks.specs.declared.answer.Marks.the-variants as marks
 use Rattle.runs.specs.Runs.{lineOf}
@@ -66,19 +67,13 @@ module _ (g : Registers) (video cursor : List ℕ) (s : Setting) (e : pictureTol
   picture-accepted = accepted g s (picture-parts .0)
 
   pub marks-given : (threshold : ℕ) → marksTold g video cursor threshold ≡ given (marksOf g s video cursor threshold)
-  unfolding marksTold
-  marks-given threshold = rw (picture-parts .0, picture-parts .1)
-
-  raster-told : (y room : ℕ) → y < s .v .0 → s .n .0 ≤ room → rasterTold g video cursor y room ≡ given tt
-  unfolding rasterTold
-  raster-told y room a b = rw (picture-parts .0, picture-parts .1, lt-leb _ _ a, le-ltb _ _ b)
+  marks-given threshold = marks-told g s video cursor threshold (picture-parts .0) (picture-parts .1)
 
   -- the cells of a raster, as they stand in lent memory
   pub raster-values : (y : ℕ) (o cells : List ℕ) → y < s .v .0 → s .n .0 ≤ length o → cells ≡ rasterHeld g video cursor y o
       → take (s .n .0) cells ≡ valuesFrom (rasterCell g s video cursor y) 0 (s .n .0)
-  unfolding rasterHeld
   raster-values y o cells a b h =
-      ap (take (s .n .0)) (h ∙ rw (raster-told y (length o) a b, ← accepted-setting g s (picture-parts .0)))
+      ap (take (s .n .0)) (h ∙ raster-held g s video cursor y (picture-parts .0) (picture-parts .1) a o b)
       ∙ painted-values o (s .n .0) (rasterCell g s video cursor y) b
 
   pub marks-are : (x : Marks) (m : ℕ) → marksSays x ≡ marksTold g video cursor 128 → x ≡ marks.Count m → m ≡ marksOf g s video cursor 128

@@ -24,7 +24,8 @@ use Rattle.sound.specs.Values.{channelOf, counterAfter, valuesOf}
 use Rattle.sound.specs.Play.{playTold, playedOf}
 use Rattle.sound.specs.Pair.{sidesOf}
 use Rattle.sound.proofs.Signed.{value-range}
-use Rattle.sound.proofs.Accepted.{stereo-positive, played}
+use Rattle.registers.proofs.Heard.{stereo-positive}
+use Rattle.sound.proofs.Accepted.{played}
 use Rattle.sound.proofs.play.Kinds as play-kinds
 use Rattle.sound.proofs.play.Reads as play-reads
 

@@ -1,11 +1,11 @@
 use borrow.Author.Needs.{needs}
 use Prim.Native.Nat.{_*_, _-_, _≤_}
-use mathlib.Core.Path.{_≡_, refl, sym, ap, _∙_}
+use mathlib.Core.Path.{_≡_, sym, ap, _∙_}
 use native.Mathlib.Omega.{arith}
 use lib.ListN.{length}
 use Rattle.runs.specs.Sheet.{sheetTold}
 use Rattle.runs.specs.Text.{linesFor, firstLines}
-use Rattle.c_calls.proofs.Text.{few-lines, last-line, more-lines, length-next, all-lines}
+use Rattle.runs.proofs.Lines.{few-lines, last-line, more-lines, no-lines, length-next, all-lines}
 use Rattle.c_calls.proofs.texts.measure.Statement.{statement}
 use Rattle.c_calls.proofs.texts.measure.Tie as tie
 
@@ -17,8 +17,7 @@ abbrev μ-loop : tie.MeasureT-loop
 μ-loop file total₀ k₀ total k = 1025 - k
 
 loop-holds : tie.Need-loop-holds Inv-loop μ-loop
-unfolding firstLines
-loop-holds c = (omega arith, omega arith, refl, omega arith)
+loop-holds c = (omega arith, omega arith, sym (ap length (no-lines _)), omega arith)
 
 measure-line-requires : tie.Need-measure-line-requires Inv-loop μ-loop
 measure-line-requires c κs = search needs

@@ -1,12 +1,13 @@
 use borrow.Author.Needs.{needs}
 use Prim.Native.Nat.{_-_, _≤_}
-use mathlib.Core.Path.{_≡_, refl, ap, _∙_}
+use mathlib.Core.Path.{_≡_, refl, sym, ap, _∙_}
 use native.Mathlib.Omega.{arith}
 use lib.ListN.{length}
 use lib.Seq.{sets, length-sets}
 use Rattle.runs.specs.Sheet.{sheetTold}
 use Rattle.runs.specs.Text.{linesFor, firstLines}
-use Rattle.c_calls.proofs.Text.{few-lines, more-lines, length-next, all-lines, lines-room, lines-stored, lines-done}
+use Rattle.runs.proofs.Lines.{few-lines, more-lines, no-lines, length-next, all-lines, lines-room}
+use Rattle.c_calls.proofs.Text.{lines-stored, lines-done}
 use Rattle.c_calls.proofs.texts.put_text.Statement.{statement}
 use Rattle.c_calls.proofs.texts.put_text.Tie as tie
 
@@ -18,8 +19,7 @@ abbrev μ-loop : tie.MeasureT-loop
 μ-loop file out₀ at₀ k₀ out at k = 1025 - k
 
 loop-holds : tie.Need-loop-holds Inv-loop μ-loop
-unfolding firstLines
-loop-holds c = (omega arith, omega arith, refl, refl)
+loop-holds c = (omega arith, omega arith, sym (ap length (no-lines _)), rw (no-lines _) refl)
 
 put-line-requires : tie.Need-put-line-requires Inv-loop μ-loop
 put-line-requires c κs =

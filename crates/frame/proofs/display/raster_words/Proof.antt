@@ -1,7 +1,6 @@
 use native.Mathlib.Omega.{arith}
-use Rattle.registers.specs.Setting.{rasterWords}
 use Rattle.frame.proofs.RasterWords.{bits-most}
-use Rattle.registers.proofs.Words.{depth-most}
+use Rattle.registers.proofs.Words.{depth-most, raster-words}
 use borrow.Author.Needs.{needs}
 use Rattle.frame.proofs.display.raster_words.Statement.{statement}
 use Rattle.frame.proofs.display.raster_words.Tie as tie
@@ -22,8 +21,7 @@ mul-result : tie.Need-mul-result
 mul-result c = omega (arith, rw (← c .before .before .wide .ensures, ← c .before .wide2 .ensures) at (bits-most _ (c .before .before .before .pre)))
 
 returns : tie.Need-returns
-unfolding rasterWords
-returns c = simp (c .before .before .wide .ensures, c .before .wide2 .ensures)
+returns c = simp (raster-words, c .before .before .wide .ensures, c .before .wide2 .ensures)
 
 pub raster-words-spec : {M : Type 1} → statement M
 raster-words-spec =

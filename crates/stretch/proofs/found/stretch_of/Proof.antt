@@ -1,8 +1,7 @@
 use Rattle.stretch.proofs.Stretches.{stretch-none, stretch-at, width-small, start-small}
-use Rattle.registers.proofs.Words.{depth-most}
+use Rattle.registers.proofs.Words.{depth-most, raster-words}
 use mathlib.Core.Path.{sym}
 use native.Mathlib.Omega.{arith}
-use Rattle.registers.specs.Setting.{rasterWords}
 use borrow.Author.Needs.{needs}
 use Rattle.stretch.proofs.found.stretch_of.Statement.{statement}
 use Rattle.stretch.proofs.found.stretch_of.Tie as tie
@@ -29,12 +28,12 @@ cast-t8 : tie.Need-cast-t8
 cast-t8 c = search needs
 
 mul-t7 : tie.Need-mul-t7
-unfolding rasterWords
-mul-t7 c = let s = c .before .before .before .before .before .before .before in omega (arith, start-small (s .args .s) _ (s .pre) (c .before .before .before .if2 .left))
+mul-t7 c = let s = c .before .before .before .before .before .before .before in
+    omega (arith, rw (raster-words (s .args .s)) at (start-small (s .args .s) _ (s .pre) (c .before .before .before .if2 .left)))
 
 returns-3 : tie.Need-returns-3
-unfolding rasterWords
-returns-3 c = sym (stretch-at _ _ (c .before .before .before .before .before .if1 .left) (c .before .before .before .if2 .left))
+returns-3 c = let s = c .before .before .before .before .before .before .before in
+    rw (raster-words (s .args .s)) at (sym (stretch-at (s .args .s) (s .args .y) (c .before .before .before .before .before .if1 .left) (c .before .before .before .if2 .left)))
 
 pub stretch-of-spec : {M : Type 1} → statement M
 stretch-of-spec =
