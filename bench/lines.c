@@ -1,5 +1,5 @@
 // As ours is painted: the cells outside the display copied from a line that is made anew only where they change, the display
-// through a table of the cells of all pixels of a byte, copied at once; depth 8 by four cells added in 64 bits, two words a turn.
+// through a table of the cells of all pixels of a byte, copied at once; depth 8 by four cells added in 64 bits, four words a turn.
 #include "paint.h"
 #include <string.h>
 
@@ -17,12 +17,11 @@ static inline uint64_t quad(uint32_t w, const uint64_t *restrict four) {
 
 static void quads(uint16_t *restrict out, const uint32_t *restrict video, uint32_t count, const uint64_t *restrict four) {
     uint32_t q = 0;
-    for (; q + 1 < count; q += 2, out += 8) {
-        uint64_t x = quad(video[q], four), y = quad(video[q + 1], four);
-        memcpy(out, &x, sizeof x);
-        memcpy(out + 4, &y, sizeof y);
+    for (; q + 3 < count; q += 4, out += 16) {
+        uint64_t x[4] = {quad(video[q], four), quad(video[q + 1], four), quad(video[q + 2], four), quad(video[q + 3], four)};
+        memcpy(out, x, sizeof x);
     }
-    if (q < count) {
+    for (; q < count; q++, out += 4) {
         uint64_t x = quad(video[q], four);
         memcpy(out, &x, sizeof x);
     }

@@ -7,10 +7,11 @@ use lib.Pow.{pow-mono}
 use native.Mathlib.Omega.{arith}
 use lib.ListN.{length, getD, set}
 use Rattle.buffers.specs.Painted.{painted}
-use Rattle.buffers.proofs.Paints.{Paints, paint-as, paint-none, paint-more, paints-of, paints-painted}
+use Rattle.buffers.proofs.Paints.{Paints, paint-as, paint-none, paint-more, paint-next, paints-of, paints-painted}
 use Rattle.frame.specs.Ink.{from, movedInk, quadCell, wordInk, wordsInk}
 use Rattle.buffers.specs.Words.{byteOf}
 use Rattle.frame.specs.Made.{Cells, Joined, Quads, Four}
+use Rattle.frame.proofs.Words.{word-same}
 
 -- The cell that byte j of a word has, one to a byte.
 pub word-cell : (table : List ℕ) (w j : ℕ) → wordInk table w 1 j ≡ getD table (w / 2 ^ (8 * j) % 256) 0
@@ -150,21 +151,33 @@ module _ (x at : ℕ) (o : List ℕ) (room : at + 4 ≤ length o) where
       (cell-put 3 (x / 2 ^ 48 % 65536) (omega arith) (place x 3)
       (cell-put 2 (x / 2 ^ 32 % 65536) (omega arith) (place x 2) (cell-put 1 (x / 2 ^ 16 % 65536) (omega arith) (place x 1) first-put)))
 
--- They are the cells of a word.
-pub quad-word : (quads p r : List ℕ) (w x k : ℕ) → Four quads w x → k + 4 ≤ length p → r ≡ painted p k (k + 4) (from k (quadCell x))
-    → r ≡ painted p k (k + 4 * 1) (from k (wordInk quads w 1))
-unfolding from
-quad-word quads p r w x k four room e =
-    paints-painted {d = 0} {f = from k (wordInk quads w 1)} room
-    (paint-as (from k (wordInk quads w 1)) (λ i a b. four .cell (i - k) (omega arith)) (paints-of {d = 0} {f = from k (quadCell x)} room e))
+-- They are the cells of word q of a list, at its place.
+module _ (quads ws : List ℕ) (at q : ℕ) where
+  pub quad-placed : (p r : List ℕ) (x : ℕ) → Four quads (getD ws q 0) x → at + 4 * q + 4 ≤ length p
+      → r ≡ painted p (at + 4 * q) (at + 4 * q + 4) (from (at + 4 * q) (quadCell x)) → r ≡ painted p (at + 4 * q) (at + 4 * q + 4) (from at (wordsInk quads ws 1))
+  unfolding from
+  quad-placed p r x four room e =
+      paints-painted {d = 0} {f = from at (wordsInk quads ws 1)} room
+      (paint-as (from at (wordsInk quads ws 1))
+      (λ i a b. four .cell (i - (at + 4 * q)) (omega arith) ∙ word-same quads ws 1 at q (at + 4 * q) (omega arith) i a b)
+      (paints-of {d = 0} {f = from (at + 4 * q) (quadCell x)} room e))
+
+  -- One word more is painted.
+  pub quad-turn : (o p r : List ℕ) (a n : ℕ) → n ≡ q + 1 → a ≤ at + 4 * q → at + 4 * q + 4 ≤ length o → Paints 0 o p a (at + 4 * q) (from at (wordsInk quads ws 1))
+      → r ≡ painted p (at + 4 * q) (at + 4 * q + 4) (from at (wordsInk quads ws 1)) → Paints 0 o r a (at + 4 * n) (from at (wordsInk quads ws 1))
+  quad-turn o p r a n next order room so-far e =
+      let k : at + 4 * q + 4 ≡ at + 4 * n = omega arith in
+      rw k at (paint-next {d = 0} {f = from at (wordsInk quads ws 1)} order (omega arith) so-far (paints-of {d = 0} {f = from at (wordsInk quads ws 1)} (omega (arith, so-far .len)) e))
 
 -- A word's cells from the table of quads are those from the table of bytes.
-pub quads-shown : (table quads p r ws : List ℕ) (at : ℕ) → Quads table quads → at + length ws * (4 * 1) ≤ length p
-    → r ≡ painted p at (at + length ws * (4 * 1)) (from at (wordsInk quads ws 1)) → r ≡ painted p at (at + length ws * (32 / 8)) (from at (wordsInk table ws (8 / 8)))
+pub quads-shown : (table quads p r ws : List ℕ) (at : ℕ) → Quads table quads → at + 4 * length ws ≤ length p
+    → r ≡ painted p at (at + 4 * length ws) (from at (wordsInk quads ws 1)) → r ≡ painted p at (at + length ws * (32 / 8)) (from at (wordsInk table ws (8 / 8)))
 unfolding from wordsInk
 quads-shown table quads p r ws at q room e =
-    paints-painted {d = 0} {f = from at (wordsInk table ws 1)} room
-    (paint-as (from at (wordsInk table ws 1)) (λ k a b. same (k - at)) (paints-of {d = 0} {f = from at (wordsInk quads ws 1)} room e))
+    let k : at + 4 * length ws ≡ at + length ws * (32 / 8) = omega arith in
+    rw k at
+    (paints-painted {d = 0} {f = from at (wordsInk table ws 1)} room
+    (paint-as (from at (wordsInk table ws 1)) (λ k a b. same (k - at)) (paints-of {d = 0} {f = from at (wordsInk quads ws 1)} room e)))
   where
     same : (i : ℕ) → getD quads (byteOf ws (i / 1) * 1 + i % 1) 0 ≡ getD table (byteOf ws (i / 1) * 1 + i % 1) 0
     same i = rw (mod-one i, mul-one (byteOf ws (i / 1)), add-zero (byteOf ws (i / 1))) (q .same (byteOf ws (i / 1)) (mod-lt _ (omega arith)))

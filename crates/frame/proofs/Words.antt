@@ -68,7 +68,7 @@ module _ (table cells : List ℕ) (w per bytes at j k : ℕ) (start : k ≡ at +
 
 -- The bytes of word q of a list.
 module _ (table ws : List ℕ) (per at q k : ℕ) (start : k ≡ at + q * (4 * per)) where
-  word-same : (i : ℕ) → k ≤ i → i < k + 4 * per → from k (wordInk table (getD ws q 0) per) i ≡ from at (wordsInk table ws per) i
+  pub word-same : (i : ℕ) → k ≤ i → i < k + 4 * per → from k (wordInk table (getD ws q 0) per) i ≡ from at (wordsInk table ws per) i
   unfolding from wordInk wordsInk
   word-same i p t =
       let some : 0 < per = omega arith in

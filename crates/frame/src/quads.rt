@@ -1,10 +1,10 @@
 // Depth 8, four cells of a word at once: each byte's cell comes from the table moved to its place in 64 bits, and they are added.
 ghost use mathlib.Core.Path.{_≡_};
-ghost use Prim.Native.Nat.{_+_, _*_, _≤_};
+ghost use Prim.Native.Nat.{_+_, _*_, _≤_, _<_};
 ghost use lib.ListN.{length};
 ghost use Rattle.buffers.specs.Painted.{painted};
 ghost use Rattle.frame.specs.Made.{Cells, Quads, Tables, Joined, Four};
-ghost use Rattle.frame.specs.Ink.{from, movedInk, quadCell, wordInk, wordsInk};
+ghost use Rattle.frame.specs.Ink.{from, movedInk, quadCell, wordsInk};
 
 // The cell of each byte moved up by so many bits, from place `at` of the table on.
 fn place(quads: &mut [u64], at: usize, table: &[u16; 2048], bits: u32)
@@ -62,28 +62,42 @@ fn put_quad(out: &mut [u16], at: usize, x: u64)
     out[at + 3] = ((x >> 48) % 0x1_0000) as u16;
 }
 
-// All pixels of one word.
-fn quad_word(out: &mut [u16], at: usize, w: u32, quads: &[u64; 1024])
-    requires { ⌜ (at + 4 ≤ length (now out)) × Joined (now quads) ⌝ }
-    ensures { λ _. ⌜ now (out .exit) ≡ painted (now (out .entry)) at (at + 4 * 1) (from at (wordInk (now (quads .entry)) w 1)) ⌝ }
-{
-    put_quad(out, at, quad(quads, w));
-}
-
-// All pixels of a list of words, two words a turn; one counter serves both lists, so that the machine keeps all in registers.
-pub fn quad_words(out: &mut [u16], at: usize, video: &[u32], quads: &[u64; 1024])
-    requires { ⌜ (at + length (now video) * (4 * 1) ≤ length (now out)) × Joined (now quads) ⌝ }
-    ensures { λ _. ⌜ now (out .exit) ≡ painted (now (out .entry)) at (at + length (now (video .entry)) * (4 * 1))
+// Word q of a list that is painted from place `at` on.
+fn quad_word(out: &mut [u16], at: usize, video: &[u32], q: usize, quads: &[u64; 1024])
+    requires { ⌜ (at + 4 * q + 4 ≤ length (now out)) × (q < length (now video)) × Joined (now quads) ⌝ }
+    ensures { λ _. ⌜ now (out .exit) ≡ painted (now (out .entry)) (at + 4 * q) (at + 4 * q + 4)
         (from at (wordsInk (now (quads .entry)) (now (video .entry)) 1)) ⌝ }
 {
-    let even = video.len() - video.len() % 2;
+    put_quad(out, at + 4 * q, quad(quads, video[q]));
+}
+
+// Its words from the first given on.
+fn quad_rest(out: &mut [u16], at: usize, video: &[u32], first: usize, quads: &[u64; 1024])
+    requires { ⌜ (at + 4 * length (now video) ≤ length (now out)) × (first ≤ length (now video)) × Joined (now quads) ⌝ }
+    ensures { λ _. ⌜ now (out .exit) ≡ painted (now (out .entry)) (at + 4 * first) (at + 4 * length (now (video .entry)))
+        (from at (wordsInk (now (quads .entry)) (now (video .entry)) 1)) ⌝ }
+{
+    let mut q = first;
+    while q < video.len() {
+        quad_word(out, at, video, q, quads);
+        q += 1;
+    }
+}
+
+// All its words, four a turn; one counter serves both lists, so that the machine keeps all in registers.
+pub fn quad_words(out: &mut [u16], at: usize, video: &[u32], quads: &[u64; 1024])
+    requires { ⌜ (at + 4 * length (now video) ≤ length (now out)) × Joined (now quads) ⌝ }
+    ensures { λ _. ⌜ now (out .exit) ≡ painted (now (out .entry)) at (at + 4 * length (now (video .entry)))
+        (from at (wordsInk (now (quads .entry)) (now (video .entry)) 1)) ⌝ }
+{
+    let fours = video.len() - video.len() % 4;
     let mut q = 0;
-    while q < even {
-        quad_word(out, at + 4 * q, video[q], quads);
-        quad_word(out, at + 4 * q + 4, video[q + 1], quads);
-        q += 2;
+    while q < fours {
+        quad_word(out, at, video, q, quads);
+        quad_word(out, at, video, q + 1, quads);
+        quad_word(out, at, video, q + 2, quads);
+        quad_word(out, at, video, q + 3, quads);
+        q += 4;
     }
-    if q < video.len() {
-        quad_word(out, at + 4 * q, video[q], quads);
-    }
+    quad_rest(out, at, video, q, quads);
 }

@@ -8,14 +8,14 @@ use Rattle.frame.proofs.decode.shown.Tie as tie
 
 quad-words-requires : tie.Need-quad-words-requires
 quad-words-requires c κs = let s = c .before .before .before .before in
-    (rw (c .before .if1 .taken) at (s .pre .0), s .pre .2 .eight (c .before .if1 .taken) .joined)
+    (omega (arith, rw (c .before .if1 .taken) at (s .pre .0)), s .pre .2 .eight (c .before .if1 .taken) .joined)
 
 same-length : tie.Need-same-length
 same-length c = search needs
 
 returns : tie.Need-returns
 returns c = let s = c .before .before .before .before .before .before .before in
-    rw (c .before .before .before .before .if1 .taken) (quads-shown (s .args .table .now) (s .args .quads .now) (s .args .out .now) _ (s .args .video .now) (s .args .at) (s .pre .2 .eight (c .before .before .before .before .if1 .taken)) (rw (c .before .before .before .before .if1 .taken) at (s .pre .0)) (c .before .before .quad-words .ensures))
+    rw (c .before .before .before .before .if1 .taken) (quads-shown (s .args .table .now) (s .args .quads .now) (s .args .out .now) _ (s .args .video .now) (s .args .at) (s .pre .2 .eight (c .before .before .before .before .if1 .taken)) (omega (arith, rw (c .before .before .before .before .if1 .taken) at (s .pre .0))) (c .before .before .quad-words .ensures))
 
 words-requires : tie.Need-words-requires
 words-requires c κs = (rw (c .before .if2 .taken) at (c .before .before .before .before .before .pre .0), record { pixels = omega arith; some = omega arith; eight = omega arith; four = refl })
