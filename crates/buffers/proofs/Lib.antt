@@ -7,3 +7,4 @@ pub mod Table
 pub mod Split
 pub mod Paints
 pub mod Puts
+pub mod Values

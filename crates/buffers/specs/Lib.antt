@@ -2,3 +2,4 @@ pub mod Pick
 pub mod Painted
 pub mod Words
 pub mod Put
+pub mod Values

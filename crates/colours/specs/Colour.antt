@@ -2,9 +2,8 @@
 use Prim.Native.Nat.{ℕ, _+_, _*_, _/_, _%_}
 use mathlib.Core.List.{List}
 use lib.Dec.{eqb}
-use lib.ListN.{replicate}
 use Rattle.buffers.specs.Pick.{pick}
-use Rattle.buffers.specs.Painted.{painted}
+use Rattle.buffers.specs.Values.{valuesFrom}
 use Rattle.registers.specs.Colours.{paletteOf}
 use Rattle.registers.specs.declared.record.Registers.{Registers}
 
@@ -24,4 +23,4 @@ colourOf g d p = shownOf (paletteOf g p) d p
 
 -- The sixteen entries.
 unfoldable pub entriesOf : Registers → List ℕ
-entriesOf g = painted (replicate 16 0) 0 16 (paletteOf g)
+entriesOf g = valuesFrom (paletteOf g) 0 16

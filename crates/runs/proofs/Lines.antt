@@ -8,13 +8,14 @@ use native.Mathlib.Numerals.{add-one}
 use native.Mathlib.Omega.{arith}
 use borrow.Author.Tests.{le-leb, ne-eqb}
 use lib.ListN.{length, length-append}
+use Rattle.buffers.specs.Values.{valuesFrom}
 use Rattle.buffers.proofs.Split.{lt-or-le}
 use Rattle.registers.specs.Table.{Told, given, refused}
 use Rattle.registers.specs.declared.setting.Setting.{Setting}
 use Rattle.frame.specs.Frame.{rasterCell}
 use Rattle.runs.specs.Runs.{lineOf, runsFrom}
 use Rattle.runs.specs.Sheet.{sheetTold, registersOf, videoList, cursorList}
-use Rattle.runs.specs.Text.{pairLine, headOf, headLine, refusedLine, labelled, valuesFrom, rasterLine, pictureLine, lineFor, lineAt, linesFor, firstLines, textOf}
+use Rattle.runs.specs.Text.{pairLine, headOf, headLine, refusedLine, labelled, rasterLine, pictureLine, lineFor, lineAt, linesFor, firstLines, textOf}
 use Rattle.runs.proofs.Texts.{picture-accepted, told-picture, no-more}
 
 -- A list with a last byte has a byte.

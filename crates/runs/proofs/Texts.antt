@@ -1,15 +1,14 @@
 -- Laws of the lines: cells painted are the cells of the line, and a picture that is not refused has its marks and its rasters.
-use Prim.Native.Nat.{ℕ, zero, suc, _+_, _-_, _<_, _≤_}
+use Prim.Native.Nat.{ℕ, _-_, _<_, _≤_}
 use mathlib.Core.Path.{_≡_, refl, sym, _∙_, ap}
 use mathlib.Core.Bool.{false}
 use mathlib.Core.List.{List, [], _∷_}
-use native.Mathlib.Nat.{zero-add, sub-zero}
+use native.Mathlib.Nat.{sub-zero}
 use native.Mathlib.Omega.{arith}
-use lib.ListN.{length, take, getD}
-use lib.Seq.{ext-getD, getD-take, length-take-le}
+use lib.ListN.{length, take}
 use borrow.Author.Tests.{lt-leb, le-leb, eq-eqb, ne-eqb}
-use Rattle.buffers.specs.Painted.{painted}
-use Rattle.buffers.proofs.Paints.{paints-of, length-painted}
+use Rattle.buffers.specs.Values.{valuesFrom}
+use Rattle.buffers.proofs.Values.{painted-values}
 use Rattle.registers.specs.Table.{Told, given, refused, judged, row, andThen, numberOf, detailOf}
 use Rattle.registers.specs.Check.{checkTold, checkSays}
 use Rattle.registers.specs.declared.record.Registers.{Registers}
@@ -27,28 +26,8 @@ use Rattle.marks.specs.declared.answer.Marks.the-variants as marks
 use Rattle.runs.specs.Runs.{lineOf}
 use Rattle.buffers.specs.Put.{Put}
 use Rattle.runs.specs.Sheet.{registersOf, videoList, cursorList, takenTold, pictureTold, sheetTold, Held, OpenedFrom}
-use Rattle.runs.specs.Text.{refusedLine, valuesFrom, rasterLine, headOf, pictureLine, lineFor, lineAt, linesFor, sheetLine, Sheet}
+use Rattle.runs.specs.Text.{refusedLine, rasterLine, headOf, pictureLine, lineFor, lineAt, linesFor, sheetLine, Sheet}
 use Rattle.runs.specs.declared.sheet.Opened.{Opened}
-
-length-values : (rule : ℕ → ℕ) (k n : ℕ) → length (valuesFrom rule k n) ≡ n
-unfolding valuesFrom
-length-values rule k zero = refl
-length-values rule k (suc n) = ap suc (length-values rule (suc k) n)
-
-getD-values : (rule : ℕ → ℕ) (k n i : ℕ) → i < n → getD (valuesFrom rule k n) i 0 ≡ rule (k + i)
-unfolding valuesFrom
-getD-values rule k zero i h = absurd (omega arith)
-getD-values rule k (suc n) zero h = ap rule (let q : k ≡ k + 0 = omega arith in q)
-getD-values rule k (suc n) (suc i) h =
-    getD-values rule (suc k) n i (omega arith) ∙ ap rule (let q : suc k + i ≡ k + suc i = omega arith in q)
-
--- the first n cells of a list painted by a rule are the rule's values
-pub painted-values : (l : List ℕ) (n : ℕ) (rule : ℕ → ℕ) → n ≤ length l → take n (painted l 0 n rule) ≡ valuesFrom rule 0 n
-painted-values l n rule h =
-    let p = paints-of {d = 0} {l = l} {a = 0} {f = rule} h refl in
-    let t : length (take n (painted l 0 n rule)) ≡ n = length-take-le n _ (rw length-painted h) in
-    ext-getD 0 _ _ (t ∙ sym (length-values rule 0 n))
-    (λ i j. getD-take n _ i 0 (omega (arith, t)) ∙ (p .on i (omega arith) (omega (arith, t)) ∙ sym (getD-values rule 0 n i (omega (arith, t)) ∙ ap rule (zero-add i))))
 
 -- a picture that is not refused
 module _ (g : Registers) (video cursor : List ℕ) (s : Setting) (e : pictureTold g video cursor ≡ given s) where

@@ -9,7 +9,8 @@ use Rattle.registers.specs.declared.setting.Setting.{Setting}
 use Rattle.frame.specs.Frame.{rasterCell}
 use Rattle.pictures.specs.Colours.{gunsOf}
 use Rattle.runs.specs.Sheet.{part, registersOf, videoList, cursorList, sheetTold}
-use Rattle.runs.specs.Text.{pairLine, valuesFrom}
+use Rattle.runs.specs.Text.{pairLine}
+use Rattle.buffers.specs.Values.{valuesFrom}
 use Rattle.runs.specs.declared.sheet.Parts.{Parts}
 
 -- `P6`, a newline, N, a space, V, a newline, `255`, a newline.

@@ -5,6 +5,7 @@ use mathlib.Core.List.{List, [], _∷_, _++_}
 use lib.ListN.{length}
 use lib.Dec.{eqb, leb}
 use Rattle.buffers.specs.Pick.{pick}
+use Rattle.buffers.specs.Values.{valuesFrom}
 use Rattle.registers.specs.Table.{Told, given, refused}
 use Rattle.registers.specs.declared.record.Registers.{Registers}
 use Rattle.registers.specs.declared.setting.Setting.{Setting}
@@ -34,11 +35,6 @@ headLine n v w m =
     ++ (labelled (32 ∷ []) v
     ++ (labelled (32 ∷ 119 ∷ 111 ∷ 114 ∷ 100 ∷ 115 ∷ 32 ∷ []) w
     ++ (labelled (32 ∷ 109 ∷ 97 ∷ 114 ∷ 107 ∷ 115 ∷ 32 ∷ []) m ++ (10 ∷ []))))
-
--- The values of a rule at n places from k on.
-unfoldable pub valuesFrom : (ℕ → ℕ) → ℕ → ℕ → List ℕ
-valuesFrom rule k zero = []
-valuesFrom rule k (suc n) = rule k ∷ valuesFrom rule (suc k) n
 
 -- The line of raster y.
 unfoldable pub rasterLine : Registers → Setting → List ℕ → List ℕ → ℕ → List ℕ

@@ -1,9 +1,10 @@
-use Prim.Native.Nat.{_-_, _≤_}
+use Prim.Native.Nat.{ℕ, _-_, _≤_}
 use mathlib.Core.Path.{_≡_}
 use native.Mathlib.Omega.{arith}
 use borrow.Author.Needs.{needs}
-use lib.ListN.{replicate}
-use Rattle.buffers.proofs.Paints.{Paints, paint-none, paint-more, paints-painted}
+use lib.ListN.{replicate, length-replicate}
+use Rattle.buffers.proofs.Paints.{Paints, paint-none, paint-more}
+use Rattle.buffers.proofs.Values.{paints-values}
 use Rattle.registers.specs.Colours.{paletteOf}
 use Rattle.colours.specs.Colour.{entriesOf}
 use Rattle.colours.proofs.entries.Statement.{statement}
@@ -42,7 +43,7 @@ loop-again c = (omega arith, paint-more _ (omega arith) (omega arith) (c .palett
 returns : tie.Need-returns Inv-loop μ-loop
 unfolding entriesOf
 returns c = let e : c .before .loop .k ≡ 16 = omega (arith, c .before .loop .inv .0) in
-    paints-painted {d = 0} (omega arith) (rw e at (c .before .loop .inv .1))
+    paints-values _ _ 16 _ (length-replicate {A = ℕ} 16 0) (rw e at (c .before .loop .inv .1))
 
 pub entries-spec : {M : Type 1} → statement M
 entries-spec =

@@ -29,10 +29,8 @@ put-line-requires c κs =
 
 same-length : tie.Need-same-length Inv-loop μ-loop
 same-length c =
-    let s = c .before .before .before .before .before .before .before .before .before in
     let l = c .before .before .before .before .before .before .loop in
     let put = c .before .before .before .put-line .ensures in
-    let file = s .args .file .now in
     (simp length-sets at (ap length (put .1))) ∙ (simp length-sets at (ap length (l .inv .3)))
 
 returns : tie.Need-returns Inv-loop μ-loop
