@@ -7,6 +7,7 @@ pub mod Picture
 pub mod Either
 pub mod Tables
 pub mod Refusals
+pub mod Words
 pub mod Dark
 pub mod Demands
 pub mod Printed

@@ -1,32 +1,21 @@
--- A run of the frame call, by the call's own promise: `Post` is its `ensures` as the source states it.
-use Prim.Native.Nat.{ℕ, _≤_}
+-- What a frame call is asked, when it is asked rightly, and what it then leaves; and of one raster.
+use Prim.Native.Nat.{ℕ, _/_, _%_, _<_, _≤_}
 use mathlib.Core.Path.{_≡_}
 use mathlib.Core.List.{List}
-use lib.ListN.{length}
-use borrow.Fn.Kinds.{Dens, resT, endedOf}
-use contract.Lifetimes.{Lfts}
-use denote.Triple.Clauses.{AtExit}
-use denote.Ref.{now}
+use lib.ListN.{length, getD}
 use Rattle.registers.specs.Table.{given}
 use Rattle.registers.specs.Setting.{settingOf, videoWords, cursorWords}
 use Rattle.registers.specs.Check.{checkTold}
 use Rattle.registers.specs.declared.record.Registers.{Registers}
+use Rattle.frame.specs.Cell.{cell}
 use Rattle.frame.specs.Frame.{cells}
-use Rattle.frame.proofs.frame.Kinds as frame-kinds
-use Rattle.frame.proofs.frame.Reads as frame-reads
+use Rattle.claims.specs.Views.{FrameRun}
 
--- `frame` was called on a record and two lists, with lent memory that held `before` and afterwards holds `after`.
-pub record FrameRun (g : Registers) (video cursor before after : List ℕ) : Type 0 where
-  pub lifetimes : Lfts 3
-  pub arguments : Dens lifetimes frame-kinds.ps
-  pub answer : resT frame-kinds.r lifetimes .Denot
-  pub exit : AtExit (endedOf 3 frame-kinds.ps frame-kinds.r) lifetimes
-  pub promise : frame-reads.Post lifetimes arguments answer exit
-  pub record-is : arguments .0 ≡ g
-  pub video-is : now (arguments .1 .0) ≡ video
-  pub cursor-is : now (arguments .1 .1 .0) ≡ cursor
-  pub before-is : now (arguments .1 .1 .1 .0) ≡ before
-  pub after-is : now (exit .1 .1 .1 .0) ≡ after
+-- The call was asked this.
+pub record On (g : Registers) (video cursor : List ℕ) (run : FrameRun) : Type 0 where
+  pub registers-are : run .registers ≡ g
+  pub video-is : run .video ≡ video
+  pub cursor-is : run .cursor ≡ cursor
 
 -- An accepted setting, lists of the sizes that it asks for, and room for N·V cells.
 pub record Right (g : Registers) (video cursor before : List ℕ) : Type 0 where
@@ -34,3 +23,16 @@ pub record Right (g : Registers) (video cursor before : List ℕ) : Type 0 where
   pub video-words : length video ≡ videoWords (settingOf g)
   pub cursor-words : length cursor ≡ cursorWords (settingOf g)
   pub room : cells (settingOf g) ≤ length before
+
+-- What lent memory holds after a frame call that is not refused.
+pub record Framed (g : Registers) (video cursor before after : List ℕ) : Type 0 where
+  pub long : length after ≡ length before
+  pub each : (k : ℕ) → k < cells (settingOf g)
+      → getD after k 0 ≡ cell g (settingOf g) video cursor (k % settingOf g .n .0) (k / settingOf g .n .0)
+  pub beyond : (k : ℕ) → cells (settingOf g) ≤ k → getD after k 0 ≡ getD before k 0
+
+-- And after a raster call.
+pub record Rastered (g : Registers) (video cursor : List ℕ) (y : ℕ) (before after : List ℕ) : Type 0 where
+  pub long : length after ≡ length before
+  pub each : (x : ℕ) → x < settingOf g .n .0 → getD after x 0 ≡ cell g (settingOf g) video cursor x y
+  pub beyond : (x : ℕ) → settingOf g .n .0 ≤ x → getD after x 0 ≡ getD before x 0
