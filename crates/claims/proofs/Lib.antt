@@ -12,4 +12,5 @@ pub mod Dark
 pub mod Demands
 pub mod Printed
 pub mod Cases
+pub mod SmallText
 pub mod Coincide

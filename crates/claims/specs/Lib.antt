@@ -7,3 +7,4 @@ pub mod RoundTrip
 pub mod Pieces
 pub mod Rows
 pub mod Marked
+pub mod SmallText
