@@ -32,13 +32,13 @@ use Rattle.claims.specs.RoundTrip.{ReadsBack, Cut}
 use Rattle.claims.proofs.Runs.{framed}
 use Rattle.claims.proofs.Refusals.{raster-refuses}
 -- Each cell of the frame, of every run that is asked rightly; and such a run exists.
-pub use Rattle.claims.proofs.Runs.{each-cell, right-runs}
+pub use Rattle.claims.proofs.Runs.{each-cell, right-runs, of-run}
 -- One byte's pair.
 pub use Rattle.sound.proofs.Places.{pair-within}
 
 -- Accepted exactly when every rule holds.
 pub accepted-exactly : Every call.check λ run. (run .answer ≡ given (settingOf (run .registers))) ↔ EveryRule (run .registers)
-accepted-exactly κs a x s p = (λ e. exactly (a .0) .0 (sym p ∙ e), λ h. p ∙ exactly (a .0) .1 h)
+accepted-exactly κs a x s p = let g = call.check .seen κs a x s .registers in (λ e. exactly g .0 (sym p ∙ e), λ h. p ∙ exactly g .1 h)
 
 raster-held : (g : Registers) (video cursor : List ℕ) (y : ℕ) (before after : List ℕ) → settingOf g .n .0 ≤ length before
     → rasterTold g video cursor y (length before) ≡ given tt → after ≡ rasterHeld g video cursor y before → Rastered g video cursor y before after

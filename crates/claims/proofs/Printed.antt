@@ -1,5 +1,5 @@
 -- Demand 1 for a plate that is printed or played: its refusals, in the order 15, 14, 1 to 9, 11 or 15, 14, 1, 2, 3, 10, and what is written of it then.
-use Prim.Native.Nat.{ℕ, _+_}
+use Prim.Native.Nat.{ℕ}
 use mathlib.Core.Path.{_≡_, refl, _∙_, ap}
 use mathlib.Core.List.{List, [], _∷_, _++_}
 use native.Mathlib.Omega.{arith}
@@ -101,10 +101,10 @@ line-stored κs a x s p =
     piece run (lineFor (run .file) (run .index)) (sheet-table (run .file)) p
 
 pub line-refuses : Every call.line λ run. (n d : ℕ) → First (sheetRows (run .file)) n d → run .index ≡ 0 → Stored run (refusedLine n d)
-line-refuses κs a x s p n d f e = rw (eq-eqb (a .1 .0) 0 e) at (line-stored κs a x s p .refused n d f)
+line-refuses κs a x s p n d f e = rw (eq-eqb (call.line .seen κs a x s .index) 0 e) at (line-stored κs a x s p .refused n d f)
 
 pub no-other-line : Every call.line λ run. (n d : ℕ) → First (sheetRows (run .file)) n d → (run .index ≡ 0 → ⊥) → Stored run []
-no-other-line κs a x s p n d f h = rw (ne-eqb (a .1 .0) 0 h) at (line-stored κs a x s p .refused n d f)
+no-other-line κs a x s p n d f h = rw (ne-eqb (call.line .seen κs a x s .index) 0 h) at (line-stored κs a x s p .refused n d f)
 
 pub text-refused : (file : List ℕ) (n d : ℕ) → First (sheetRows file) n d → textOf file ≡ refusedLine n d
 unfolding textOf firstLines lineAt

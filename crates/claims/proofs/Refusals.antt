@@ -28,7 +28,7 @@ use Rattle.plates.specs.Read.{readTold, copyTold, copied}
 use Rattle.plates.specs.Write.{writeTold}
 use Rattle.claims.specs.Calls.{Every, numbers, ByTable, Kept}
 use Rattle.claims.specs.Views as call
-use Rattle.claims.specs.Views.{FrameRun, RasterRun, MarksRun, StretchRun, PlayRun, CopyRun, WriteRun}
+use Rattle.claims.specs.Views.{LoadRun, FrameRun, RasterRun, MarksRun, StretchRun, PlayRun, CopyRun, WriteRun}
 use Rattle.claims.specs.Rows.{wordRows, frameRows, rasterRows, marksRows, stretchRows, playRows, pairRows, readRows, copyRows, writeRows}
 use Rattle.claims.proofs.Tables.{by-table, and-then-judged, kept}
 
@@ -76,23 +76,25 @@ write-numbers rs vs cs ss places = refl
 -- Loading.
 pub load-word-refuses : Every call.loadWord λ run.
     ByTable (run .answer) (wordRows (run .words)) tt × Kept (run .answer) (run .registers) (run .loaded)
-load-word-refuses κs a x s p = (by-table tt (wordRows (a .1 .0)) (p .0), kept (storedOf (a .0) (a .1 .0)) (p .0) (p .1))
+load-word-refuses κs a x s p =
+    let run : LoadRun ℕ = call.loadWord .seen κs a x s in
+    (by-table tt (wordRows (run .words)) (p .0), kept (storedOf (run .registers) (run .words)) (p .0) (p .1))
 
 pub load-refuses : Every call.load λ run.
     ByTable (run .answer) (loadTable (run .words)) tt × Kept (run .answer) (run .registers) (run .loaded)
 unfolding loadTold
 load-refuses κs a x s p =
-    let words : List ℕ = call.load .seen κs a x s .words in
-    (by-table tt (loadTable words) (p .0), kept (applied (a .0) words) (p .0) (p .1))
+    let run : LoadRun (List ℕ) = call.load .seen κs a x s in
+    (by-table tt (loadTable (run .words)) (p .0), kept (applied (run .registers) (run .words)) (p .0) (p .1))
 
 -- Checking.
 pub check-refuses : Every call.check λ run. ByTable (run .answer) (settingTable (run .registers)) (settingOf (run .registers))
 unfolding checkTold
-check-refuses κs a x s p = by-table (settingOf (a .0)) (settingTable (a .0)) p
+check-refuses κs a x s p = let g = call.check .seen κs a x s .registers in by-table (settingOf g) (settingTable g) p
 
 pub check-sound-refuses : Every call.checkSound λ run. ByTable (run .answer) (soundTable (run .registers)) tt
 unfolding soundTold
-check-sound-refuses κs a x s p = by-table tt (soundTable (a .0)) p
+check-sound-refuses κs a x s p = by-table tt (soundTable (call.checkSound .seen κs a x s .registers)) p
 
 -- Picture calls.
 module _ (g : Registers) (video cursor : List ℕ) where
@@ -186,7 +188,7 @@ play-refuses κs a x s p =
 
 pub pair-refuses : Every call.pair λ run. ByTable (run .answer) (pairRows (run .stereo)) (sidesOf (run .byte) (run .stereo % 8))
 unfolding pairTold
-pair-refuses κs a x s p = by-table _ (pairRows (a .1 .0)) p
+pair-refuses κs a x s p = by-table _ (pairRows (call.pair .seen κs a x s .stereo)) p
 
 -- Plate files.
 copy-told : (file : List ℕ) (places : ℕ) → copyTold file places ≡ judged (copyRows file places) tt

@@ -1,6 +1,6 @@
 -- What a run of the frame call leaves in lent memory, from the call's own promise: each cell by the cell rule. And that there is a run.
 use Prim.Native.Nat.{ℕ, _≤_}
-use mathlib.Core.Path.{_≡_, refl, sym, _∙_, ap}
+use mathlib.Core.Path.{_≡_, refl, sym, _∙_, ap, subst}
 use mathlib.Core.List.{List, []}
 use native.Mathlib.Omega.{arith}
 use lib.ListN.{length}
@@ -13,7 +13,7 @@ use Rattle.registers.specs.Setting.{settingOf, videoWords, cursorWords}
 use Rattle.registers.specs.declared.record.Registers.{Registers}
 use Rattle.registers.specs.declared.refusal.Answer.the-variants.{Done}
 use Rattle.frame.specs.Frame.{cells, frameCell, frameTold, frameHeld}
-use Rattle.claims.specs.Calls.{Every, Ran}
+use Rattle.claims.specs.Calls.{Call, Every, Ran}
 use Rattle.claims.specs.Views as call
 use Rattle.claims.specs.Framed.{On, Right, Framed}
 
@@ -50,11 +50,15 @@ pub framed : {g : Registers} {video cursor : List ℕ}
     → Every call.frame λ run. On g video cursor run → Right g video cursor (run .before) → Framed g video cursor (run .before) (run .after)
 framed κs a x s p on r = held-framed r (p .1 ∙ rw (on .registers-are, on .video-is, on .cursor-is))
 
+-- What holds of every run holds of a run that there is.
+pub of-run : (c : Call) (holds : c .Seen → Type 0) → Every c holds → (run : c .Seen) → Ran c run → holds run
+of-run c holds every run r = subst holds (r .is) (every (r .lifetimes) (r .arguments) (r .answer) (r .exit) (r .promise))
+
 -- A list as it is lent.
 lent : List ℕ → RefT (List ℕ)
 lent l = record { ptr = (0, 0); name = 0; now = l }
 
--- Asked rightly, there is a run: nothing that is said of every run is said of none.
+-- Asked rightly, there is a run: what is said of every run is not said of none.
 pub right-runs : (g : Registers) (video cursor before : List ℕ) → Right g video cursor before
     → Ran call.frame (record {
       registers = g;

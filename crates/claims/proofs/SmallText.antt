@@ -1,7 +1,7 @@
 -- The small plate's file has 140 bytes, and its text by the text's own definition is the paper's seven lines. All is computed, in steps: the lists are
 -- those that the file was made of, the setting is accepted, the marks are counted, and each raster's codes stand in the runs that its line tells.
 use Prim.Native.Nat.{ℕ, suc}
-use mathlib.Core.Path.{_≡_, refl, sym, _∙_, ap}
+use mathlib.Core.Path.{_≡_, refl, _∙_, ap}
 use mathlib.Core.List.{List, [], _∷_, _++_, map}
 use lib.ListN.{length}
 use Rattle.buffers.specs.Words.{bytesOf, wordsOf}
@@ -22,7 +22,7 @@ use Rattle.marks.specs.Marks.{marksOf}
 use Rattle.plates.specs.Plate.{plateOf}
 use Rattle.plates.specs.Read.{readTold}
 use Rattle.runs.specs.Decimal.{digits, decimal}
-use Rattle.runs.specs.Runs.{codeOf, run, lineOf}
+use Rattle.runs.specs.Runs.{codeOf, run}
 use Rattle.runs.specs.Sheet.{registerWords, videoList, cursorList, registersOf, takenTold, pictureTold, sheetTold}
 use Rattle.runs.specs.Text.{labelled, headLine, rasterLine, headOf, pictureLine, lineAt, firstLines, textOf}
 use Rattle.runs.proofs.Spread.{Codes, _of_, spread, Apart, runsText, line-spread}

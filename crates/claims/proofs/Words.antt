@@ -15,7 +15,7 @@ use Rattle.stretch.specs.Stretch.{isDisplayed, stretchOf, stretchTable, stretch
 use Rattle.stretch.specs.declared.found.Stretch.{Stretch}
 use Rattle.stretch.proofs.Stretches.{in-rasters, is-displayed, stretch-none}
 use Rattle.stretch.proofs.Pixels.{stretch-pixel}
-use Rattle.claims.specs.Calls.{Every, ByTable}
+use Rattle.claims.specs.Calls.{Every}
 use Rattle.claims.specs.Views as call
 use Rattle.claims.specs.Views.{WordsRun}
 use Rattle.claims.specs.Rows.{stretchRows}

@@ -238,7 +238,7 @@ write = call 5 write-kinds.ps write-kinds.r write-reads.Post WriteRun
       after = now (s .1 .1 .1 .1 .0);
     }
 
--- What the programs write of a plate: line, strip or block k, and how many bytes it has; the line that refuses its sound.
+-- What the programs write of a plate: line, strip or block k, and how many bytes it has; the one line that refuses its sound.
 pub record PieceRun : Type 0 where
   pub file : List ℕ
   pub index : ℕ
