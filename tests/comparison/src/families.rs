@@ -45,7 +45,7 @@ impl Family {
 
 /// Every family whose turn it is in this round.
 pub fn run_round(bench: &mut Bench, round: u64) {
-    for family in FAMILIES.iter().filter(|family| round.is_multiple_of(family.every)) {
+    for family in FAMILIES.iter().filter(|family| round % family.every == 0) {
         family.run(bench, round);
     }
 }

@@ -49,13 +49,15 @@ fn compare_read(bench: &mut Bench, random: &mut Random, file: &[u8]) {
 /// Above the limit, with a trailer that fits.
 fn right_but_long(file: &[u8]) -> bool {
     let distance = plate::words_of(&file[file.len().saturating_sub(16)..]).first().copied();
-    file.len() as u64 > MOST_BYTES && distance.is_some_and(|r| 4 * r as usize + 16 == file.len())
+    file.len() as u64 > MOST_BYTES && distance.map_or(false, |r| 4 * r as usize + 16 == file.len())
 }
 
 /// Wrong, but right for one who reckons 4R + 16 in 32 bits.
 fn right_only_modulo(file: &[u8]) -> bool {
-    let Some(start) = file.len().checked_sub(16) else { return false };
-    let t = plate::words_of(&file[start..]);
+    if file.len() < 16 {
+        return false;
+    }
+    let t = plate::words_of(&file[file.len() - 16..]);
     let in_order = t[0] >= t[1] && t[1] >= t[2] && t[2] >= t[3];
     let wrapped = t[0].wrapping_mul(4).wrapping_add(16) as usize;
     in_order && wrapped == file.len() && plate::read(file).is_err()
