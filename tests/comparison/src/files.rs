@@ -95,13 +95,9 @@ fn compare_write(bench: &mut Bench, random: &mut Random, sections: [&[u32]; 4]) 
     let words: usize = sections.iter().map(|section| section.len()).sum();
     let length = lent_length(random, 4 * words + 16);
     let expected = plate::write(registers, video, cursor, sound, length);
-    let judged = Judged::bytes(
-        random,
-        expected.as_deref().map_err(|refusal| *refusal),
-        length,
-        |out, size| library::write_into(sections, out, size),
-        |out| library::write(sections, out),
-    );
+    let judged = Judged::bytes(random, expected.as_deref().map_err(|refusal| *refusal), length, |out| {
+        library::write(sections, out)
+    });
     let bytes = expected.map_or(0, |file| file.len());
     bench.see("file of 4,194,304 bytes written", bytes == 4_194_304);
     bench.see("file of 16 bytes written", bytes == 16);
