@@ -10,4 +10,4 @@ pub use Rattle.plates.proofs.Unique.{one-read, one-copy-out, one-write}
 pub use Rattle.pictures.proofs.Unique.{one-guns}
 pub use Rattle.waves.proofs.Unique.{one-head, one-samples}
 pub use Rattle.runs.proofs.Unique.{one-line, one-strip, one-block, one-refusal}
-pub use Rattle.c_calls.proofs.Unique.{one-judge-sound, one-vom-read, one-vom-copy, one-vom-write, one-vom-colour, one-vom-grey, one-vom-pin, one-vom-load, one-vom-load-word, one-vom-frame, one-vom-raster, one-vom-raster-words, one-vom-marks, one-vom-check, one-vom-check-sound, one-vom-sound, one-vom-sound-pair, one-vom-text}
+pub use Rattle.c_calls.proofs.Unique.{one-vom-read, one-vom-copy, one-vom-write, one-vom-colour, one-vom-grey, one-vom-pin, one-vom-load, one-vom-load-word, one-vom-frame, one-vom-raster, one-vom-raster-words, one-vom-marks, one-vom-check, one-vom-check-sound, one-vom-sound, one-vom-sound-pair, one-vom-text}
