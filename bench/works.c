@@ -100,7 +100,7 @@ void set_text(void) {
     set(1, (uint32_t[]){2048, 4, 9, 25, 2041, 2047, 1000}, (uint32_t[]){1024, 1, 1, 2, 228, 1024, 1, 1024});
     size_t rest = 65536 / 4 - 4 - register_count - pic.video_words - pic.cursor_words;
     if (vom_write(registers, register_count, noise, pic.video_words, stripes, pic.cursor_words, noise, rest, file_out, PLATE,
-                  &length, 1) || length != 65536) die("the printer's plate was refused");
+                  &length) || length != 65536) die("the printer's plate was refused");
     memcpy(file, file_out, length);
 }
 
@@ -108,13 +108,16 @@ void set_text(void) {
 
 void ours_frame(void) { if (vom_frame(GIVEN, LISTS, cells, LARGEST)) die("the frame was refused"); }
 void ours_raster(void) { if (vom_raster(GIVEN, LISTS, pic.v / 2, cells, LARGEST)) die("the raster was refused"); }
-void ours_marks(void) { if (vom_marks(GIVEN, LISTS, 128, &marks, 1)) die("the marks were refused"); }
-void ours_sound(void) { if (vom_sound(GIVEN, noise, SOUNDS, 5, sound_out, SOUNDS * 8, &after, 1)) die("sound was refused"); }
+void ours_marks(void) { if (vom_marks(GIVEN, LISTS, 128, &marks)) die("the marks were refused"); }
+void ours_sound(void) {
+    after = 5;
+    if (vom_sound(GIVEN, noise, SOUNDS, &after, sound_out, SOUNDS * 8)) die("sound was refused");
+}
 void ours_copy(void) { if (vom_copy(file, PLATE, words_out, PLATE_WORDS)) die("the copy was refused"); }
-void ours_text(void) { if (vom_text(file, 65536, text, sizeof text, &length, 1)) die("the text was refused"); }
+void ours_text(void) { if (vom_text(file, 65536, text, sizeof text, &length)) die("the text was refused"); }
 void ours_write(void) {
     if (vom_write(noise, 1000, noise + 1000, 900000, noise + 901000, 100000, noise + 1001000, PLATE_WORDS - 1001000, file_out,
-                  PLATE, &length, 1)) die("the plate was refused");
+                  PLATE, &length)) die("the plate was refused");
 }
 
 // ---- the baselines, alike for each compiler
