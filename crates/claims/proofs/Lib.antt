@@ -6,8 +6,11 @@ pub mod Lists
 pub mod Picture
 pub mod Either
 pub mod Tables
+pub mod Judged
 pub mod Refusals
 pub mod Words
+pub mod CCodes
+pub mod CRefusals
 pub mod Dark
 pub mod Demands
 pub mod Printed

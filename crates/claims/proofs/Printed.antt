@@ -28,6 +28,7 @@ use Rattle.claims.specs.Views.{PieceRun}
 use Rattle.claims.specs.Pieces.{Stored, StoredBy}
 use Rattle.claims.specs.Rows.{marksRows, readRows, takenRows, sheetRows, waveRows}
 use Rattle.claims.proofs.Tables.{by-table, and-then-judged}
+use Rattle.claims.proofs.Judged.{load-told, sound-told, read-told}
 
 pub wave-numbers : (file : List ℕ) → numbers (waveRows file) ≡ 15 ∷ 14 ∷ 1 ∷ 2 ∷ 3 ∷ 10 ∷ []
 wave-numbers file = refl
@@ -45,25 +46,13 @@ before : {A B : Type 0} (t : Told A) (u : Told B) (a : A) (b : B) (rows more : L
 before t u a b rows more e h =
     ap (λ v. andThen v (λ _. u)) e ∙ ap (λ v. andThen (judged rows a) (λ _. v)) h ∙ and-then-judged a rows (λ _. more) (λ _. b)
 
-loaded-told : (words : List ℕ) → loadTold words ≡ judged (loadTable words) tt
-unfolding loadTold
-loaded-told words = refl
-
-reading-told : (file : List ℕ) → readTold file ≡ judged (readRows file) (sectionsOf file)
-unfolding readTold
-reading-told file = refl
-
-sounding-told : (g : Registers) → soundTold g ≡ judged (soundTable g) tt
-unfolding soundTold
-sounding-told g = refl
-
 taken-told : (file : List ℕ) → takenTold file ≡ judged (takenRows file) tt
 unfolding takenTold
 taken-told file =
     before (judged (row 15 (ltb mostInput (length file)) 0 ∷ []) (length file)) (andThen (readTold file) (λ _. loadTold (registerWords file)))
     (length file) tt (row 15 (ltb mostInput (length file)) 0 ∷ []) (readRows file ++ loadTable (registerWords file)) refl
-    (before (readTold file) (loadTold (registerWords file)) (sectionsOf file) tt (readRows file) (loadTable (registerWords file)) (reading-told file)
-    (loaded-told (registerWords file)))
+    (before (readTold file) (loadTold (registerWords file)) (sectionsOf file) tt (readRows file) (loadTable (registerWords file)) (read-told file)
+    (load-told (registerWords file)))
 
 -- A plate is given its setting, or refused, by the printer's table.
 pub sheet-table : (file : List ℕ) → ByTable (sheetTold file) (sheetRows file) (settingOf (registersOf file))
@@ -80,7 +69,7 @@ unfolding waveTold
 wave-table file =
     by-table _ (waveRows file)
     (before (takenTold file) (soundTold (registersOf file)) tt tt (takenRows file) (soundTable (registersOf file)) (taken-told file)
-    (sounding-told (registersOf file)))
+    (sound-told (registersOf file)))
 
 -- A piece that goes by what a table tells.
 piece : {A : Type 0} (run : PieceRun) {t : Told A} (text : Told A → List ℕ) {rows : List Row} {a : A} → ByTable t rows a

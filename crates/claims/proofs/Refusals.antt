@@ -4,33 +4,33 @@ use Prim.Native.Nat.{ℕ, _*_, _%_}
 use mathlib.Core.Path.{_≡_, refl, _∙_, ap}
 use mathlib.Core.Bool.{Bool, true, false}
 use mathlib.Core.List.{List, [], _∷_}
-use lib.Dec.{ltb}
 use lib.ListN.{length}
 use lib.Seq.{sets}
 use Rattle.buffers.specs.Pick.{pick}
 use Rattle.buffers.specs.Painted.{painted}
-use Rattle.registers.specs.Table.{refused, Row, row, judged}
+use Rattle.registers.specs.Table.{refused, Row, judged}
 use Rattle.registers.specs.Record.{storedOf}
-use Rattle.registers.specs.Load.{applied, loadTable, loadTold}
+use Rattle.registers.specs.Load.{applied, loadTable}
 use Rattle.registers.specs.Setting.{settingOf}
-use Rattle.registers.specs.Check.{settingTable, checkTold}
-use Rattle.registers.specs.Sound.{soundTable, soundTold}
+use Rattle.registers.specs.Check.{settingTable}
+use Rattle.registers.specs.Sound.{soundTable}
 use Rattle.registers.specs.declared.record.Registers.{Registers}
-use Rattle.frame.specs.Frame.{wordsWrong, cells, frameCell, frameTable, frameTold, frameHeld, rasterCell, rasterTable, rasterTold, rasterHeld}
-use Rattle.marks.specs.Marks.{marksOf, marksTold}
-use Rattle.stretch.specs.Stretch.{stretchOf, stretchTable, stretchTold, answerTold}
+use Rattle.frame.specs.Frame.{cells, frameCell, frameHeld, rasterCell, rasterHeld}
+use Rattle.marks.specs.Marks.{marksOf}
+use Rattle.stretch.specs.Stretch.{stretchOf, stretchTold, answerTold}
 use Rattle.stretch.specs.declared.found.Stretch.{Stretch}
 use Rattle.sound.specs.Values.{counterAfter}
-use Rattle.sound.specs.Play.{playTold, playedOf}
-use Rattle.sound.specs.Pair.{sidesOf, pairTold}
+use Rattle.sound.specs.Play.{playedOf}
+use Rattle.sound.specs.Pair.{sidesOf}
 use Rattle.plates.specs.Plate.{sectionsOf, plateOf, plateLength}
-use Rattle.plates.specs.Read.{readTold, copyTold, copied}
-use Rattle.plates.specs.Write.{writeTold}
+use Rattle.plates.specs.Read.{copied}
 use Rattle.claims.specs.Calls.{Every, numbers, ByTable, Kept}
 use Rattle.claims.specs.Views as call
-use Rattle.claims.specs.Views.{LoadRun, FrameRun, RasterRun, MarksRun, StretchRun, PlayRun, CopyRun, WriteRun}
+use Rattle.claims.specs.Views.{LoadRun, FrameRun, RasterRun, MarksRun, StretchRun, PlayRun, PairRun, CopyRun, WriteRun}
 use Rattle.claims.specs.Rows.{wordRows, frameRows, rasterRows, marksRows, stretchRows, playRows, pairRows, readRows, copyRows, writeRows}
-use Rattle.claims.proofs.Tables.{by-table, and-then-judged, kept}
+use Rattle.claims.proofs.Tables.{by-table, kept}
+use Rattle.claims.proofs.Judged.{load-told, check-told, sound-told, frame-told, raster-told, marks-told, stretch-told}
+use Rattle.claims.proofs.Judged.{play-told, pair-told, read-told, copy-told, write-told}
 
 -- The numbers of each table, in its order.
 pub load-word-numbers : (word : ℕ) → numbers (wordRows word) ≡ 2 ∷ []
@@ -82,39 +82,18 @@ load-word-refuses κs a x s p =
 
 pub load-refuses : Every call.load λ run.
     ByTable (run .answer) (loadTable (run .words)) tt × Kept (run .answer) (run .registers) (run .loaded)
-unfolding loadTold
 load-refuses κs a x s p =
     let run : LoadRun (List ℕ) = call.load .seen κs a x s in
-    (by-table tt (loadTable (run .words)) (p .0), kept (applied (run .registers) (run .words)) (p .0) (p .1))
+    (by-table tt _ (p .0 ∙ load-told (run .words)), kept (applied (run .registers) (run .words)) (p .0) (p .1))
 
 -- Checking.
 pub check-refuses : Every call.check λ run. ByTable (run .answer) (settingTable (run .registers)) (settingOf (run .registers))
-unfolding checkTold
-check-refuses κs a x s p = let g = call.check .seen κs a x s .registers in by-table (settingOf g) (settingTable g) p
+check-refuses κs a x s p = by-table _ _ (p ∙ check-told (call.check .seen κs a x s .registers))
 
 pub check-sound-refuses : Every call.checkSound λ run. ByTable (run .answer) (soundTable (run .registers)) tt
-unfolding soundTold
-check-sound-refuses κs a x s p = by-table tt (soundTable (call.checkSound .seen κs a x s .registers)) p
+check-sound-refuses κs a x s p = by-table tt _ (p ∙ sound-told (call.checkSound .seen κs a x s .registers))
 
 -- Picture calls.
-module _ (g : Registers) (video cursor : List ℕ) where
-  frame-told : (room : ℕ) → frameTold g video cursor room ≡ judged (frameRows g video cursor room) tt
-  unfolding frameTold checkTold
-  frame-told room = and-then-judged (settingOf g) (settingTable g) (λ s. frameTable s video cursor room) (λ s. tt)
-
-  raster-told : (y room : ℕ) → rasterTold g video cursor y room ≡ judged (rasterRows g video cursor y room) tt
-  unfolding rasterTold checkTold
-  raster-told y room = and-then-judged (settingOf g) (settingTable g) (λ s. rasterTable s video cursor y room) (λ s. tt)
-
-  marks-told : (threshold : ℕ) → marksTold g video cursor threshold ≡ judged (marksRows g video cursor) (marksOf g (settingOf g) video cursor threshold)
-  unfolding marksTold checkTold
-  marks-told threshold =
-      and-then-judged (settingOf g) (settingTable g) (λ s. row 11 (wordsWrong s video cursor) 0 ∷ []) (λ s. marksOf g s video cursor threshold)
-
-stretch-told : (g : Registers) (video : List ℕ) (y : ℕ) → stretchTold g video y ≡ judged (stretchRows g video y) (stretchOf (settingOf g) y)
-unfolding stretchTold checkTold
-stretch-told g video y = and-then-judged (settingOf g) (settingTable g) (λ s. stretchTable s video y) (λ s. stretchOf s y)
-
 pub frame-refuses : Every call.frame λ run.
     ByTable (run .answer) (frameRows (run .registers) (run .video) (run .cursor) (length (run .before))) tt
     × Kept (run .answer) (run .before) (run .after)
@@ -172,10 +151,6 @@ raster-words-refuses κs a x s p =
     ∙ answered (stretchRows (run .registers) (run .video) (run .raster)) (stretchOf (settingOf (run .registers)) (run .raster)))
 
 -- Sound.
-play-told : (g : Registers) (words places : ℕ) → playTold g words places ≡ judged (playRows g words places) tt
-unfolding playTold soundTold
-play-told g words places = and-then-judged tt (soundTable g) (λ u. row 13 (ltb places (8 * words)) 0 ∷ []) (λ u. tt)
-
 pub play-refuses : Every call.play λ run.
     ByTable (run .answer) (playRows (run .registers) (length (run .words)) (length (run .before))) tt
     × Kept (run .answer) (run .before) (run .after) × Kept (run .answer) (run .counter) (run .counted)
@@ -187,17 +162,11 @@ play-refuses κs a x s p =
     )
 
 pub pair-refuses : Every call.pair λ run. ByTable (run .answer) (pairRows (run .stereo)) (sidesOf (run .byte) (run .stereo % 8))
-unfolding pairTold
-pair-refuses κs a x s p = by-table _ (pairRows (call.pair .seen κs a x s .stereo)) p
+pair-refuses κs a x s p = let run : PairRun = call.pair .seen κs a x s in by-table _ _ (p ∙ pair-told (run .byte) (run .stereo))
 
 -- Plate files.
-copy-told : (file : List ℕ) (places : ℕ) → copyTold file places ≡ judged (copyRows file places) tt
-unfolding copyTold readTold
-copy-told file places = and-then-judged (sectionsOf file) (readRows file) (λ sections. row 13 (ltb places (sections .r)) 0 ∷ []) (λ sections. tt)
-
 pub read-refuses : Every call.read λ run. ByTable (run .answer) (readRows (run .file)) (sectionsOf (run .file))
-unfolding readTold
-read-refuses κs a x s p = by-table _ (readRows (call.read .seen κs a x s .file)) p
+read-refuses κs a x s p = by-table _ _ (p ∙ read-told (call.read .seen κs a x s .file))
 
 pub copy-out-refuses : Every call.copyOut λ run.
     ByTable (run .answer) (copyRows (run .file) (length (run .before))) tt × Kept (run .answer) (run .before) (run .after)
@@ -209,9 +178,8 @@ pub write-refuses : Every call.write λ run.
     ByTable (run .answer) (writeRows (run .registers) (run .video) (run .cursor) (run .sound) (length (run .before)))
     (plateLength (run .registers) (run .video) (run .cursor) (run .sound))
     × Kept (run .answer) (run .before) (run .after)
-unfolding writeTold
 write-refuses κs a x s p =
     let run : WriteRun = call.write .seen κs a x s in (
-      by-table _ (writeRows (run .registers) (run .video) (run .cursor) (run .sound) (length (run .before))) (p .0),
+      by-table _ _ (p .0 ∙ write-told (run .registers) (run .video) (run .cursor) (run .sound) (length (run .before))),
       kept (sets (run .before) 0 (plateOf (run .registers) (run .video) (run .cursor) (run .sound))) (p .0) (p .1),
     )

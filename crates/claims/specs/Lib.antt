@@ -6,5 +6,7 @@ pub mod Framed
 pub mod RoundTrip
 pub mod Pieces
 pub mod Rows
+pub mod CRows
+pub mod CViews
 pub mod Marked
 pub mod SmallText

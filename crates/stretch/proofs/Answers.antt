@@ -68,12 +68,12 @@ module _ (g : Registers) (video : List ℕ) (y : ℕ) (x : Found) (c : foundSays
 -- A part of the lent list by two ends of it: the stretch that is given, and an empty part at the list's front where the call is refused.
 module _ (g : Registers) (list part : RefT (List ℕ)) (y : ℕ) (x : Found) (c : foundSays x ≡ stretchTold g (now list) y)
     (memory : ptr part .0 ≡ ptr list .0) where
-  pub part-refused : {why : Refusal} → x ≡ found.Refused why → now part ≡ [] → ptr part .1 ≡ ptr list .1
+  pub returned-none : {why : Refusal} → x ≡ found.Refused why → now part ≡ [] → ptr part .1 ≡ ptr list .1
       → PartOf list part (stretchTold g (now list) y)
-  part-refused e words place = rw (← c, e) (record { words = words; memory = memory; place = omega (arith, place) })
+  returned-none e words place = rw (← c, e) (record { words = words; memory = memory; place = omega (arith, place) })
 
-  pub part-given : {p : Stretch} → x ≡ found.At p → now part ≡ take (p .start + p .count - p .start) (drop (p .start) (now list))
+  pub returned-stretch : {p : Stretch} → x ≡ found.At p → now part ≡ take (p .start + p .count - p .start) (drop (p .start) (now list))
       → ptr part .1 ≡ ptr list .1 + 4 * p .start → PartOf list part (stretchTold g (now list) y)
-  part-given {p} e words place =
+  returned-stretch {p} e words place =
       let count : p .start + p .count - p .start ≡ p .count = add-sub-cancel-left (p .start) (p .count) in
       rw (← c, e) (record { words = rw count at words; memory = memory; place = place })

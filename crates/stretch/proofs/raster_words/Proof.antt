@@ -1,5 +1,5 @@
 -- The returned part is that stretch of the caller's list: what `find` tells bounds it, and a part by two ends starts 4 bytes on for each word before it.
-use Rattle.stretch.proofs.Answers.{part-refused, part-given, words-room}
+use Rattle.stretch.proofs.Answers.{returned-none, returned-stretch, words-room}
 use mathlib.Core.Path.{refl}
 use native.Mathlib.Omega.{arith}
 use borrow.Author.Needs.{needs}
@@ -49,11 +49,11 @@ part-result-end-2 c =
     words-room (s .args .g) (s .args .video .now) (s .args .y .0) _ found (c .before .before .stretch .given .1)
 
 returns : tie.Need-returns
-returns c = part-refused _ _ _ _ _ (c .before .before .before .find .ensures) refl (c .before .enum-told .given .1) refl (omega arith)
+returns c = returned-none _ _ _ _ _ (c .before .before .before .find .ensures) refl (c .before .enum-told .given .1) refl (omega arith)
 
 returns-2 : tie.Need-returns-2
 returns-2 c =
-    part-given _ _ _ _ _ (c .before .before .before .before .before .find .ensures) refl (c .before .before .before .stretch .given .1) refl (omega arith)
+    returned-stretch _ _ _ _ _ (c .before .before .before .before .before .find .ensures) refl (c .before .before .before .stretch .given .1) refl (omega arith)
 
 pub raster-words-spec : {M : Type 1} → statement M
 raster-words-spec =
