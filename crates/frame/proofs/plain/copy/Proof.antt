@@ -53,7 +53,7 @@ loop-again c =
       omega arith,
       omega arith,
       copy-more (s .args .at) (l .k) _ _ (omega arith)
-      (omega (arith, s .pre .2, c .before .loop-test .taken, c .before .before .before .before .wide .ensures)) (l .inv .2),
+          (omega (arith, s .pre .2, c .before .loop-test .taken, c .before .before .before .before .wide .ensures)) (l .inv .2),
     )
 
 same-length : tie.Need-same-length Inv-loop μ-loop
