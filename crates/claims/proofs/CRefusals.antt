@@ -38,9 +38,12 @@ use Rattle.claims.specs.Calls.{Every, numbers, ByTable, Kept}
 use Rattle.claims.specs.Rows.{wordRows, frameRows, rasterRows, marksRows, stretchRows, playRows, pairRows, readRows, copyRows, writeRows}
 use Rattle.claims.specs.CRows.{ofRecord, roomFor, textRows}
 use Rattle.claims.specs.CViews as c
-use Rattle.claims.specs.CViews.{LoadRun, CheckRun, CheckSoundRun, FrameRun, RasterRun, WordsRun, MarksRun, ColourRun, SoundRun, PairRun, FileRun, WriteRun, TextRun}
-use Rattle.claims.proofs.Judged.{load-told, check-told, sound-told, frame-told, raster-told, marks-told, stretch-told, play-told, pair-told, read-told, copy-told, write-told}
-use Rattle.claims.proofs.CCodes.{no-rows, plain, fits-after, by-code, kept-code, kept-under, record-told, record-fits, record-code, room-code, setting-fits, sound-fits, load-fits}
+use Rattle.claims.specs.CViews.{LoadRun, CheckRun, CheckSoundRun, FrameRun, RasterRun, WordsRun, MarksRun, ColourRun}
+use Rattle.claims.specs.CViews.{SoundRun, PairRun, FileRun, WriteRun, TextRun}
+use Rattle.claims.proofs.Judged.{load-told, check-told, sound-told, frame-told, raster-told, marks-told, stretch-told}
+use Rattle.claims.proofs.Judged.{play-told, pair-told, read-told, copy-told, write-told}
+use Rattle.claims.proofs.CCodes.{no-rows, plain, fits-after, setting-fits, sound-fits, load-fits}
+use Rattle.claims.proofs.CCodes.{by-code, kept-code, kept-under, record-told, record-fits, record-code, room-code}
 
 -- The numbers of each table, in its order.
 module _ (values written : List ℕ) where

@@ -1,7 +1,7 @@
 -- The thirteen marked cases hold, by computation.
 use mathlib.Core.Path.{refl}
 use Rattle.buffers.specs.Painted.{eachFrom, painted}
-use Rattle.registers.specs.Record.{storedOf}
+use Rattle.registers.specs.Record.{reserved, storedOf}
 use Rattle.registers.specs.Load.{applied}
 use Rattle.registers.specs.Lowest.{lowest}
 use Rattle.registers.specs.Setting.{settingOf, videoWords, cursorWords}
@@ -18,7 +18,7 @@ _and_ : {A B : Type 0} → A → B → A × B
 p and q = (p, q)
 
 pub all-marked-cases : AllHold markedCases
-unfolding eachFrom painted storedOf applied lowest settingOf videoWords cursorWords checkTold pixel cursorPair plainCode covered code cell frameTold rasterCell rasterTold rasterHeld amplitudeOf signedOf valueOf pairTold
+unfolding eachFrom painted reserved storedOf applied lowest settingOf videoWords cursorWords checkTold pixel cursorPair plainCode covered code cell frameTold rasterCell rasterTold rasterHeld amplitudeOf signedOf valueOf pairTold
 all-marked-cases =
     (refl, refl)
     and (refl, refl)

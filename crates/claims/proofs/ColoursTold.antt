@@ -1,6 +1,6 @@
 -- When the colour of a logical pixel tells the pixel, over any depth.
 use Prim.Native.Nat.{ℕ, zero, suc, _%_, _^_, _<_, _≤_}
-use mathlib.Core.Path.{_≡_, refl, sym, _∙_}
+use mathlib.Core.Path.{_≡_, refl, sym, _∙_, ap}
 use mathlib.Core.Bool.{true, false}
 use mathlib.Core.List.{[], _∷_}
 use mathlib.Core.Logic.{_⊎_, inl, inr}
@@ -51,7 +51,8 @@ module _ (g : Registers) where
       elim (by-cases p q) [
         | inl s ↦ s
         | inr s ↦
-            let same : paletteOf g p ≡ paletteOf g q = rw f at e in
+            let shown : paletteOf g p % 2 ^ 13 ≡ paletteOf g q % 2 ^ 13 = rw f at e in
+            let same : paletteOf g p ≡ paletteOf g q = omega arith in
             let w : differ d (paletteOf g p) (paletteOf g q) ≡ true = distinct p q (rw m hp) (rw m hq) s in
             absurd (no (sym (differ-self d (paletteOf g q)) ∙ rw same at w))
       ]
@@ -67,7 +68,7 @@ module _ (g : Registers) where
       let lj : j < 16 = rw m at hj in
       (rw f (same-mixed (paletteOf g i) (paletteOf g j) i j (rw f at e) (omega arith)), rw f (omega arith), rw f (omega arith))
   alike-by d n i j (inr (f, m, l)) hi hj e =
-      (rw f (same-entry d (paletteOf g i) (paletteOf g j) f (omega arith) (omega arith) e), rw m at hi, rw m at hj)
+      (rw f (ap (λ (c : ℕ). c % 2 ^ 13) (same-entry d (paletteOf g i) (paletteOf g j) f (omega arith) (omega arith) e)), rw m at hi, rw m at hj)
 
   -- Where two agree in all shown bits, the pixels that pick them have one colour.
   pub alike-colour : (i j : ℕ) → Alike g i j → (colourOf g (depthOf g) i ≡ colourOf g (depthOf g) j) × (i < 2 ^ depthOf g) × (j < 2 ^ depthOf g)

@@ -1,14 +1,14 @@
 -- The paper's thirteen marked cases, as one list of statements.
-use Prim.Native.Nat.{ℕ, _-_, _%_}
+use Prim.Native.Nat.{ℕ, _-_}
 use mathlib.Core.Path.{_≡_}
 use mathlib.Core.Bool.{true, false}
 use mathlib.Core.List.{List, [], _∷_, _++_}
-use lib.ListN.{getD, replicate}
+use lib.ListN.{replicate}
 use lib.IntN.{pos, negsuc}
 use Rattle.registers.specs.Table.{given, refused}
 use Rattle.registers.specs.Record.{fresh, storedOf, writtenAt}
 use Rattle.registers.specs.Load.{applied}
-use Rattle.registers.specs.Geometry.{tenBits, control, depthOf}
+use Rattle.registers.specs.Geometry.{tenBits, pixelRate, depthOf}
 use Rattle.registers.specs.Setting.{settingOf, displayOn}
 use Rattle.registers.specs.Stereo.{stereoOf}
 use Rattle.registers.specs.Check.{checkTold}
@@ -25,10 +25,6 @@ use Rattle.sound.specs.Pair.{pairTold}
 abbrev pub AllHold : List (Type 0) → Type 0
 AllHold [] = Unit {0}
 AllHold (t ∷ ts) = t × AllHold ts
-
--- Control bits 1-0: the pixel rate in MHz.
-abbrev pub pixelRate : Registers → ℕ
-pixelRate g = getD (8 ∷ 12 ∷ 16 ∷ 24 ∷ []) (control g % 4) 0
 
 -- The small plate's record with one word more, and its video word.
 abbrev pub smallBut : ℕ → Registers

@@ -6,7 +6,7 @@ use lib.Dec.{eqb}
 use Rattle.buffers.specs.Pick.{pick}
 use Rattle.registers.specs.Colours.{paletteOf}
 use Rattle.registers.specs.declared.record.Registers.{Registers}
-use Rattle.colours.specs.Colour.{mixed, colourOf}
+use Rattle.colours.specs.Colour.{mixed, shownOf, colourOf}
 use Rattle.colours.specs.Grey.{greyOf}
 
 pub picked-below : (t : Bool) {a b m : ℕ} → a < m → b < m → pick t a b < m
@@ -16,8 +16,11 @@ picked-below false ha hb = hb
 mixed-below : (e p : ℕ) → mixed e p < 8192
 mixed-below e p = omega arith
 
+pub shown-below : (e d p : ℕ) → shownOf e d p < 8192
+shown-below e d p = picked-below (eqb d 8) (mixed-below e p) (omega arith)
+
 pub colour-below : (g : Registers) (d p : ℕ) → colourOf g d p < 8192
-colour-below g d p = picked-below (eqb d 8) (mixed-below (paletteOf g p) p) (omega arith)
+colour-below g d p = shown-below (paletteOf g p) d p
 
 pub grey-most : (c : ℕ) → greyOf c ≤ 255
 grey-most c = omega arith

@@ -1,5 +1,5 @@
 -- The colour that a logical pixel shows.
-use Prim.Native.Nat.{ℕ, _+_, _*_, _/_, _%_}
+use Prim.Native.Nat.{ℕ, _+_, _*_, _/_, _%_, _^_}
 use mathlib.Core.List.{List}
 use lib.Dec.{eqb}
 use Rattle.buffers.specs.Pick.{pick}
@@ -15,7 +15,7 @@ mixed e p =
 
 -- Depth 1, 2, 4: the entry in all 13 bits.
 abbrev pub shownOf : ℕ → ℕ → ℕ → ℕ
-shownOf e d p = pick (eqb d 8) (mixed e p) e
+shownOf e d p = pick (eqb d 8) (mixed e p) (e % 2 ^ 13)
 
 -- The logical pixel picks the entry, at depth 8 its low nibble.
 abbrev pub colourOf : Registers → ℕ → ℕ → ℕ

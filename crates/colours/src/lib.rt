@@ -21,14 +21,14 @@ fn mix(entry: u16, pixel: u8) -> u16
         + entry % 8
 }
 
-// The colour that a palette entry shows for a logical pixel, 13 bits.
+// The colour that a palette entry, 13 bits of what is given, shows for a logical pixel.
 pub fn shown(entry: u16, depth: u8, pixel: u8) -> u16
     ensures { λ r. ⌜ r ≡ shownOf entry depth pixel ⌝ }
 {
     if depth == 8 {
         return mix(entry, pixel);
     }
-    entry
+    entry % 0x2000
 }
 
 // The colour that a logical pixel shows.

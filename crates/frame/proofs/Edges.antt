@@ -102,29 +102,31 @@ module _ (s : Setting) (r : Accepted s) (pens o : List ℕ) (y : ℕ) (room : s 
   synced : (p : List ℕ) → p ≡ painted o 0 (s .hs .0) (λ k. blankOf s y + 8192) → Paints 0 o p 0 (s .hs .0) (edgeInk s pens y)
   synced p e = filled 0 (s .hs .0) (blankOf s y + 8192) (omega (arith, r .hs-bs, r .bs-ds, r .ds-de, r .de-be, r .be-n)) (λ x a b. sym (sync-edge s pens x y b)) e
 
-  pub blank-line : (p m : List ℕ) (hs n empty : ℕ) → within (s .vbs .0) (s .vbe .0) y ≡ false → hs ≡ s .hs .0 → n ≡ s .n .0 → empty ≡ blankOf s y
-      → p ≡ painted o 0 hs (λ k. empty + 8192) → m ≡ painted p hs n (λ k. empty) → m ≡ painted o 0 (s .n .0) (edgeInk s pens y)
-  blank-line p m hs n empty none e-hs e-n e-empty e f =
-      let sync = synced p (simp (e-hs, e-empty) at e) in
+  pub blank-line : (p m : List ℕ) (empty : ℕ) → within (s .vbs .0) (s .vbe .0) y ≡ false → empty ≡ blankOf s y
+      → p ≡ painted o 0 (s .hs .0) (λ k. empty + 8192) → m ≡ painted p (s .hs .0) (s .n .0) (λ k. empty)
+      → m ≡ painted o 0 (s .n .0) (edgeInk s pens y)
+  blank-line p m empty none e-empty e f =
+      let sync = synced p (simp e-empty at e) in
       let rest = filled (s .hs .0) (s .n .0) (blankOf s y) (rw (sync .len) room)
       (λ x a b. sym (blank-edge s pens x y a (λ i. true≢false (sym (true-within (s .vbs .0) (s .vbe .0) y (i .above) (i .below)) ∙ none))))
-      (simp (e-hs, e-n, e-empty) at f) in
+      (simp e-empty at f) in
       paints-painted {d = 0} room (paint-next {d = 0} (omega arith) (omega (arith, r .hs-bs, r .bs-ds, r .ds-de, r .de-be, r .be-n)) sync rest)
 
-  pub bordered-line : (p q t m : List ℕ) (hs bs be n empty : ℕ) → s .vbs .0 ≤ y → y < s .vbe .0 → hs ≡ s .hs .0 → bs ≡ s .bs .0 → be ≡ s .be .0 → n ≡ s .n .0
-      → empty ≡ blankOf s y → p ≡ painted o 0 hs (λ k. empty + 8192) → q ≡ painted p hs bs (λ k. empty) → t ≡ painted q bs be (λ k. getD pens 0 0)
-      → m ≡ painted t be n (λ k. empty) → m ≡ painted o 0 (s .n .0) (edgeInk s pens y)
-  bordered-line p q t m hs bs be n empty above below e-hs e-bs e-be e-n e-empty e f g h =
-      let sync = synced p (simp (e-hs, e-empty) at e) in
+  pub bordered-line : (p q t m : List ℕ) (empty : ℕ) → s .vbs .0 ≤ y → y < s .vbe .0 → empty ≡ blankOf s y
+      → p ≡ painted o 0 (s .hs .0) (λ k. empty + 8192) → q ≡ painted p (s .hs .0) (s .bs .0) (λ k. empty)
+      → t ≡ painted q (s .bs .0) (s .be .0) (λ k. getD pens 0 0) → m ≡ painted t (s .be .0) (s .n .0) (λ k. empty)
+      → m ≡ painted o 0 (s .n .0) (edgeInk s pens y)
+  bordered-line p q t m empty above below e-empty e f g h =
+      let sync = synced p (simp e-empty at e) in
       let before = filled (s .hs .0) (s .bs .0) (blankOf s y) (rw (sync .len) (omega (arith, r .bs-ds, r .ds-de, r .de-be, r .be-n)))
       (λ x a b. sym (blank-edge s pens x y a (λ i. omega (arith, i .left))))
-      (simp (e-hs, e-bs, e-empty) at f) in
+      (simp e-empty at f) in
       let border = filled (s .bs .0) (s .be .0) (getD pens 0 0) (rw (before .len, sync .len) (omega (arith, r .be-n)))
       (λ x a b. sym (border-edge s pens x y r (record { left = a; right = b; above = above; below = below })))
-      (rw (e-bs, e-be) at g) in
+      g in
       let after = filled (s .be .0) (s .n .0) (blankOf s y) (rw (border .len, before .len, sync .len) room)
       (λ x a b. sym (blank-edge s pens x y (omega (arith, r .hs-bs, r .bs-ds, r .ds-de, r .de-be)) (λ i. omega (arith, i .right))))
-      (simp (e-be, e-n, e-empty) at h) in
+      (simp e-empty at h) in
       paints-painted {d = 0} room
       (paint-next {d = 0} (omega arith) (omega (arith, r .be-n))
       (paint-next {d = 0} (omega arith) (omega (arith, r .bs-ds, r .ds-de, r .de-be)) (paint-next {d = 0} (omega arith) (omega (arith, r .hs-bs)) sync before) border) after)

@@ -136,7 +136,7 @@ module _ (s : Setting) (r : Accepted s) (pens cursor o : List ℕ) (at y : ℕ) 
           (rw (c .on, le-leb (s .vcs .0) y (c .cursor .above), lt-ltb y (s .vce .0) (c .cursor .below), le-leb (s .vbs .0) y (c .border .above), lt-ltb y (s .vbe .0) (c .border .below)))
           ∙ e)
 
-  module _ (cx bs be low high : ℕ) (e-cx : cx ≡ s .cx .0) (e-bs : bs ≡ s .bs .0) (e-be : be ≡ s .be .0) (e-low : low ≡ bs - cx) (e-high : high ≡ min (be - cx) 32) where
+  module _ (low high : ℕ) (e-low : low ≡ s .bs .0 - s .cx .0) (e-high : high ≡ min (s .be .0 - s .cx .0) 32) where
     pub outside-law : high ≤ low → o ≡ painted o at (at + s .n .0) (coverInk s pens cursor y at o)
     outside-law h =
         kept-law (λ x t. is-false (covered s cursor x y) (λ c. no x (covered-covers s r cursor x y c)))
@@ -145,24 +145,24 @@ module _ (s : Setting) (r : Accepted s) (pens cursor o : List ℕ) (at y : ℕ) 
         no x c = omega (arith, c .border .left, c .border .right, c .cursor .left, c .cursor .right)
 
     pub cover-law : (p : List ℕ) → low < high → s .cursor ≡ true → s .vcs .0 ≤ y → y < s .vce .0 → s .vbs .0 ≤ y → y < s .vbe .0
-        → p ≡ painted o (at + cx + low) (at + cx + high) (pairInk pens cursor (2 * (y - s .vcs .0)) (at + cx) o)
+        → p ≡ painted o (at + s .cx .0 + low) (at + s .cx .0 + high) (pairInk pens cursor (2 * (y - s .vcs .0)) (at + s .cx .0) o)
         → p ≡ painted o at (at + s .n .0) (coverInk s pens cursor y at o)
     unfolding coverInk pairInk pairIn cursorPair
     cover-law p order on above below top bottom e =
         paints-painted {d = 0} {f = coverInk s pens cursor y at o} room
         (paint-within {d = 0} (coverInk s pens cursor y at o) (omega arith) (omega (arith, r .be-n)) before over after kept
-        (paints-of {d = 0} {f = pairInk pens cursor (2 * (y - s .vcs .0)) (at + cx) o} (omega (arith, r .be-n)) e))
+        (paints-of {d = 0} {f = pairInk pens cursor (2 * (y - s .vcs .0)) (at + s .cx .0) o} (omega (arith, r .be-n)) e))
       where
         kept : Paints 0 o o at (at + s .n .0) (λ k. getD o k 0)
         kept = record { len = refl; low = λ k h. refl; on = λ k a b. refl; high = λ k h. refl }
 
-        before : (k : ℕ) → at ≤ k → k < at + cx + low → getD o k 0 ≡ coverInk s pens cursor y at o k
+        before : (k : ℕ) → at ≤ k → k < at + s .cx .0 + low → getD o k 0 ≡ coverInk s pens cursor y at o k
         before k a b = rw (is-false (covered s cursor (k - at) y) (λ t. no (covered-covers s r cursor (k - at) y t)))
           where
             no : Covers s (k - at) y → ⊥
             no c = omega (arith, c .border .left, c .cursor .left)
 
-        after : (k : ℕ) → at + cx + high ≤ k → k < at + s .n .0 → getD o k 0 ≡ coverInk s pens cursor y at o k
+        after : (k : ℕ) → at + s .cx .0 + high ≤ k → k < at + s .n .0 → getD o k 0 ≡ coverInk s pens cursor y at o k
         after k a b = rw (is-false (covered s cursor (k - at) y) (λ t. no (covered-covers s r cursor (k - at) y t)))
           where
             no : Covers s (k - at) y → ⊥
@@ -172,9 +172,9 @@ module _ (s : Setting) (r : Accepted s) (pens cursor o : List ℕ) (at y : ℕ) 
         swap true a b = refl
         swap false a b = refl
 
-        over : (k : ℕ) → at + cx + low ≤ k → k < at + cx + high → pairInk pens cursor (2 * (y - s .vcs .0)) (at + cx) o k ≡ coverInk s pens cursor y at o k
+        over : (k : ℕ) → at + s .cx .0 + low ≤ k → k < at + s .cx .0 + high → pairInk pens cursor (2 * (y - s .vcs .0)) (at + s .cx .0) o k ≡ coverInk s pens cursor y at o k
         over k a b =
-            let i : k - (at + cx) ≡ k - at - s .cx .0 = omega arith in
+            let i : k - (at + s .cx .0) ≡ k - at - s .cx .0 = omega arith in
             rw (
               i,
               covers-covered s r cursor (k - at) y (record {

@@ -3,7 +3,7 @@ use mathlib.Core.Path.{_≡_, refl}
 use mathlib.Core.List.{[], _∷_, _++_}
 use lib.ListN.{replicate}
 use Rattle.buffers.specs.Painted.{eachFrom, painted}
-use Rattle.registers.specs.Record.{storedOf}
+use Rattle.registers.specs.Record.{reserved, storedOf}
 use Rattle.registers.specs.Load.{applied}
 use Rattle.registers.specs.Lowest.{lowest}
 use Rattle.registers.specs.Setting.{settingOf, videoWords, cursorWords}
@@ -17,5 +17,5 @@ pub raster-three : rasterHeld smallRegisters (0x76543210 ∷ []) [] 3 (replicate
     ≡ replicate 4 8192 ++ replicate 3 0 ++ replicate 4 36608
     ++ (40960 ∷ 40961 ∷ 40962 ∷ 40963 ∷ 40964 ∷ 40965 ∷ 40966 ∷ 40967 ∷ [])
     ++ replicate 4 36608 ++ replicate 9 0 ++ (7 ∷ [])
-unfolding eachFrom painted storedOf applied lowest settingOf videoWords cursorWords checkTold pixel cursorPair plainCode covered code cell rasterCell rasterTold rasterHeld
+unfolding eachFrom painted reserved storedOf applied lowest settingOf videoWords cursorWords checkTold pixel cursorPair plainCode covered code cell rasterCell rasterTold rasterHeld
 raster-three = refl

@@ -41,9 +41,6 @@ count-most d h = rw (count-is d h) (omega (arith, pow-mono h))
 
 -- The cells by the palette's entries.
 module _ (g : Registers) (palette : List ℕ) (d p : ℕ) (e : palette ≡ entriesOf g) where
-  pub shown-below : shownOf (getD palette (p % 16) 0) d p < 8192
-  shown-below = rw (entry-of g palette p e) (colour-below g d p)
-
   pub entry-shade : entryShade palette d p ≡ shade g d p
   unfolding entryShade shade
   entry-shade = rw (entry-of g palette p e)

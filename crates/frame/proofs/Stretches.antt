@@ -37,26 +37,27 @@ module _ (s : Setting) (r : Accepted s) (line table video : List ℕ) (at y : �
       (λ k p q. rw (is-false (inDisplay s (k - at) y) (λ t. out (k - at) (omega arith) (omega arith) (display-inside s (k - at) y t))))
       (paints-of room e)
 
-  pub undisplayed-law : (o m : List ℕ) (n : ℕ) → at + s .n .0 ≤ length o → n ≡ s .n .0 → within (s .vds .0) (s .vde .0) y ≡ false
-      → m ≡ painted o (at + 0) (at + n) (from at (cellIn line)) → m ≡ painted o at (at + s .n .0) (from at (linedInk s line table video y))
-  undisplayed-law o m n room e-n none e =
+  pub undisplayed-law : (o m : List ℕ) → at + s .n .0 ≤ length o → within (s .vds .0) (s .vde .0) y ≡ false
+      → m ≡ painted o (at + 0) (at + s .n .0) (from at (cellIn line)) → m ≡ painted o at (at + s .n .0) (from at (linedInk s line table video y))
+  undisplayed-law o m room none e =
       rw (add-zero at) at
       (paints-painted {d = 0} room
-      (copied 0 (s .n .0) room (λ x a b i. true≢false (sym (true-within (s .vds .0) (s .vde .0) y (i .above) (i .below)) ∙ none)) (rw e-n at e)))
+      (copied 0 (s .n .0) room (λ x a b i. true≢false (sym (true-within (s .vds .0) (s .vde .0) y (i .above) (i .below)) ∙ none)) e))
 
-  pub displayed-law : (o p q m : List ℕ) (ds de n : ℕ) → at + s .n .0 ≤ length o → ds ≡ s .ds .0 → de ≡ s .de .0 → n ≡ s .n .0
-      → within (s .vds .0) (s .vde .0) y ≡ true → p ≡ painted o (at + 0) (at + ds) (from at (cellIn line))
-      → q ≡ painted p (at + s .ds .0) (at + s .de .0) (from at (displayInk s table video y)) → m ≡ painted q (at + de) (at + n) (from at (cellIn line))
+  pub displayed-law : (o p q m : List ℕ) → at + s .n .0 ≤ length o → within (s .vds .0) (s .vde .0) y ≡ true
+      → p ≡ painted o (at + 0) (at + s .ds .0) (from at (cellIn line))
+      → q ≡ painted p (at + s .ds .0) (at + s .de .0) (from at (displayInk s table video y))
+      → m ≡ painted q (at + s .de .0) (at + s .n .0) (from at (cellIn line))
       → m ≡ painted o at (at + s .n .0) (from at (linedInk s line table video y))
   unfolding from linedInk
-  displayed-law o p q m ds de n room e-ds e-de e-n in-rows e f g =
+  displayed-law o p q m room in-rows e f g =
       let rows = within-true (s .vds .0) (s .vde .0) y in-rows in
-      let left = copied 0 (s .ds .0) (omega (arith, r .ds-de, r .de-be, r .be-n)) (λ x a b i. omega (arith, i .left)) (rw e-ds at e) in
+      let left = copied 0 (s .ds .0) (omega (arith, r .ds-de, r .de-be, r .be-n)) (λ x a b i. omega (arith, i .left)) e in
       let shown : Paints 0 p q (at + s .ds .0) (at + s .de .0) (from at (linedInk s line table video y)) =
       paint-as (from at (linedInk s line table video y))
       (λ k a b. rw (inside-display s (k - at) y (record { left = omega arith; right = omega arith; above = rows .0; below = rows .1 })))
       (paints-of (rw (left .len) (omega (arith, r .de-be, r .be-n))) f) in
-      let right = copied (s .de .0) (s .n .0) (rw (shown .len, left .len) room) (λ x a b i. omega (arith, i .right)) (rw (e-de, e-n) at g) in
+      let right = copied (s .de .0) (s .n .0) (rw (shown .len, left .len) room) (λ x a b i. omega (arith, i .right)) g in
       rw (add-zero at) at
       (paints-painted {d = 0} room
       (paint-next {d = 0} (omega (arith, r .ds-de)) (omega (arith, r .de-be, r .be-n)) (paint-next {d = 0} (omega arith) (omega (arith, r .ds-de)) left shown) right))

@@ -1,6 +1,5 @@
 // The cursor over one raster: its up to 32 positions, cut to the border.
 use crate::units::least;
-use crate::units::past;
 use crate::units::wide;
 use registers::setting::Setting;
 use registers::units::Rasters;
@@ -59,15 +58,14 @@ pub fn cover(out: &mut [u16], at: usize, s: Setting, y: Rasters, pens: &[u16; 4]
     if !pointed(s, y) {
         return;
     }
-    let cx = wide(s.cx);
-    let low = past(wide(s.bs), cx);
-    let high = least(past(wide(s.be), cx), 32);
+    let low = wide(s.bs.width_from(s.cx));
+    let high = least(wide(s.be.width_from(s.cx)), 32);
     if high <= low {
         return;
     }
     pairs(
         out,
-        at + cx,
+        at + wide(s.cx),
         low,
         high,
         pens,

@@ -1,8 +1,8 @@
 // A raster's cells outside the display, in a line that is made anew only where they change: sync, blank, border, blank.
 use crate::fill::fill;
 use crate::units::bordered;
-use crate::units::wide;
 use registers::setting::Setting;
+use registers::units::Pixels;
 use registers::units::Rasters;
 ghost use mathlib.Core.Bool.{false};
 ghost use mathlib.Core.Path.{_≡_};
@@ -26,19 +26,15 @@ fn edges(line: &mut [u16], s: Setting, y: Rasters, pens: &[u16; 4])
     requires { ⌜ Accepted s × (s .n .0 ≤ length (now line)) ⌝ }
     ensures { λ _. ⌜ now (line .exit) ≡ painted (now (line .entry)) 0 (s .n .0) (edgeInk s (now (pens .entry)) (y .0)) ⌝ }
 {
-    let hs = wide(s.hs);
-    let n = wide(s.n);
     let empty = blank(s, y);
-    fill(line, 0, hs, empty + 8192);
+    fill(line, Pixels(0), s.hs, empty + 8192);
     if bordered(s, y) {
-        let bs = wide(s.bs);
-        let be = wide(s.be);
-        fill(line, hs, bs, empty);
-        fill(line, bs, be, pens[0]);
-        fill(line, be, n, empty);
+        fill(line, s.hs, s.bs, empty);
+        fill(line, s.bs, s.be, pens[0]);
+        fill(line, s.be, s.n, empty);
         return;
     }
-    fill(line, hs, n, empty);
+    fill(line, s.hs, s.n, empty);
 }
 
 // Whether the line of the raster before, if there is one, is not raster y's.

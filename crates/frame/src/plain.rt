@@ -3,6 +3,7 @@ use crate::display::display;
 use crate::units::displayed;
 use crate::units::wide;
 use registers::setting::Setting;
+use registers::units::Pixels;
 use registers::units::Rasters;
 ghost use mathlib.Core.Path.{_≡_};
 ghost use Prim.Native.Nat.{_+_, _≤_};
@@ -12,13 +13,14 @@ ghost use Rattle.frame.specs.Lent.{Raster};
 ghost use Rattle.frame.specs.Made.{Tables};
 ghost use Rattle.frame.specs.Ink.{from, cellIn, linedInk};
 
-// Positions a up to b of a line, into the raster at place `at`.
-fn copy(out: &mut [u16], at: usize, line: &[u16; 2048], a: usize, b: usize)
-    requires { ⌜ (a ≤ b) × (b ≤ 2048) × (at + b ≤ length (now out)) ⌝ }
-    ensures { λ _. ⌜ now (out .exit) ≡ painted (now (out .entry)) (at + a) (at + b) (from at (cellIn (now (line .entry)))) ⌝ }
+// Positions from the start up to the end of a line, into the raster at place `at`.
+fn copy(out: &mut [u16], at: usize, line: &[u16; 2048], start: Pixels, end: Pixels)
+    requires { ⌜ (start .0 ≤ end .0) × (end .0 ≤ 2048) × (at + end .0 ≤ length (now out)) ⌝ }
+    ensures { λ _. ⌜ now (out .exit) ≡ painted (now (out .entry)) (at + start .0) (at + end .0) (from at (cellIn (now (line .entry)))) ⌝ }
 {
-    let mut k = a;
-    while k < b {
+    let last = wide(end);
+    let mut k = wide(start);
+    while k < last {
         out[at + k] = line[k];
         k += 1;
     }
@@ -38,12 +40,11 @@ pub fn plain(
     ensures { λ _. ⌜ now (out .exit) ≡ painted (now (out .entry)) at (at + s .n .0)
         (from at (linedInk s (now (line .entry)) (now (table .entry)) (now (video .entry)) (y .0))) ⌝ }
 {
-    let n = wide(s.n);
     if displayed(s, y) {
-        copy(out, at, line, 0, wide(s.ds));
+        copy(out, at, line, Pixels(0), s.ds);
         display(out, at, s, y, table, quads, video);
-        copy(out, at, line, wide(s.de), n);
+        copy(out, at, line, s.de, s.n);
         return;
     }
-    copy(out, at, line, 0, n);
+    copy(out, at, line, Pixels(0), s.n);
 }

@@ -3,23 +3,13 @@ use registers::setting::Setting;
 use registers::units::Pixels;
 use registers::units::Rasters;
 ghost use mathlib.Core.Path.{_≡_};
-ghost use Prim.Native.Nat.{_-_, min};
+ghost use Prim.Native.Nat.{min};
 ghost use Rattle.frame.specs.Cell.{within};
 
 pub fn wide(p: Pixels) -> usize
     ensures { λ r. ⌜ r ≡ p .0 ⌝ }
 {
     p.0 as usize
-}
-
-// a - b, or 0 where b is larger.
-pub fn past(a: usize, b: usize) -> usize
-    ensures { λ r. ⌜ r ≡ a - b ⌝ }
-{
-    if a < b {
-        return 0;
-    }
-    a - b
 }
 
 pub fn least(a: usize, b: usize) -> usize

@@ -75,11 +75,20 @@ fn put_timing(line: Line, g: Registers, address: usize) -> Line {
 
 pub fn put_meaning(line: Line, g: Registers, address: usize) -> Line {
     match address {
-        0x00..=0x3C => put_colour(line, g.palette((address / 4) as u8)),
+        Registers::PALETTE_0..=Registers::PALETTE_15 => put_colour(
+            line,
+            g.palette((address / 4) as u8),
+        ),
         Registers::BORDER => put_colour(line, g.border()),
-        0x44..=0x4C => put_colour(line, g.cursor_colour((address / 4 - 16) as u8)),
-        0x60..=0x7C => put_stereo(line, g.stereo(((address / 4 - 17) % 8) as u8)),
-        0x80..=0xBC => put_timing(line, g, address),
+        Registers::CURSOR_1..=Registers::CURSOR_3 => put_colour(
+            line,
+            g.cursor_colour((address / 4 - 16) as u8),
+        ),
+        Registers::STEREO_7..=Registers::STEREO_6 => put_stereo(
+            line,
+            g.stereo(((address / 4 - 17) % 8) as u8),
+        ),
+        Registers::HCR..=Registers::VCER => put_timing(line, g, address),
         Registers::SOUND_FREQUENCY => put_rate(line, g.sound_frequency()),
         Registers::CONTROL => put_control(line, g),
         _ => line.text(b"no register"),

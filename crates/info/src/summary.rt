@@ -6,19 +6,12 @@ use registers::setting::Setting;
 use registers::units::Pixels;
 use registers::units::Rasters;
 
-const CURSOR_WIDTH: u64 = 32;
+const CURSOR_WIDTH: Pixels = Pixels(32);
 
-fn past(end: u16, start: u16) -> u64 {
-    if end < start {
-        return 0;
-    }
-    (end - start) as u64
-}
-
-fn put_area(line: Line, width: u64, height: u64, left: Pixels, top: Rasters) -> Line {
-    line.number(width)
+fn put_area(line: Line, width: Pixels, height: Rasters, left: Pixels, top: Rasters) -> Line {
+    line.small(width.0)
         .text(b" x ")
-        .number(height)
+        .small(height.0)
         .text(b" from (")
         .small(left.0)
         .text(b", ")
@@ -28,8 +21,8 @@ fn put_area(line: Line, width: u64, height: u64, left: Pixels, top: Rasters) -> 
 
 fn put_display(line: Line, s: Setting) -> Line {
     if s.display_on() {
-        let width = past(s.de.0, s.ds.0);
-        let height = past(s.vde.0, s.vds.0);
+        let width = s.de.width_from(s.ds);
+        let height = s.vde.height_from(s.vds);
         return put_area(line.text(b", display "), width, height, s.ds, s.vds);
     }
     line.text(b", display off")
@@ -37,8 +30,8 @@ fn put_display(line: Line, s: Setting) -> Line {
 
 fn put_border(line: Line, s: Setting) -> Line {
     if s.border_on() {
-        let width = past(s.be.0, s.bs.0);
-        let height = past(s.vbe.0, s.vbs.0);
+        let width = s.be.width_from(s.bs);
+        let height = s.vbe.height_from(s.vbs);
         return put_area(line.text(b", border "), width, height, s.bs, s.vbs);
     }
     line.text(b", border off")
@@ -46,7 +39,7 @@ fn put_border(line: Line, s: Setting) -> Line {
 
 fn put_cursor(line: Line, s: Setting) -> Line {
     if s.cursor {
-        let height = past(s.vce.0, s.vcs.0);
+        let height = s.vce.height_from(s.vcs);
         return put_area(line.text(b", cursor "), CURSOR_WIDTH, height, s.cx, s.vcs);
     }
     line.text(b", cursor off")

@@ -79,18 +79,9 @@ fn put_interlace(line: Line, control: u32) -> Line {
     line
 }
 
-fn put_pixel_rate(line: Line, control: u32) -> Line {
-    match control % 4 {
-        0 => line.text(b"8 MHz"),
-        1 => line.text(b"12 MHz"),
-        2 => line.text(b"16 MHz"),
-        _ => line.text(b"24 MHz"),
-    }
-}
-
 pub fn put_control(line: Line, g: Registers) -> Line {
     let control = g.control();
-    let line = put_pixel_rate(line, control).text(b", ");
+    let line = line.number(g.pixel_rate() as u64).text(b" MHz, ");
     let line = put_depth(line, g.setting().depth)
         .text(b", request point ")
         .number((control / 0x10 % 4) as u64);

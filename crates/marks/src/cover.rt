@@ -1,6 +1,8 @@
 // Bright pixels that the cursor covers: at most 32 positions of each of its rasters.
 use crate::pixels::pixel_at;
 use registers::setting::Setting;
+use registers::units::Pixels;
+use registers::units::Rasters;
 ghost use mathlib.Core.Path.{_≡_};
 ghost use Prim.Native.Nat.{_+_, _*_, _/_, _%_, _^_, _<_, _≤_};
 ghost use lib.ListN.{length, getD};
@@ -11,11 +13,11 @@ ghost use Rattle.frame.proofs.CellCodes.{Displayed};
 ghost use Rattle.marks.specs.Bright.{Ready, OnCursor, cursorBright, cursorRaster, coveredAll};
 
 // Where a displayed position's pixel stands among all.
-fn place(s: Setting, x: usize, y: usize) -> usize
-    requires { ⌜ Accepted s × Displayed s x y ⌝ }
-    ensures { λ r. ⌜ r ≡ position s x y ⌝ }
+fn place(s: Setting, x: Pixels, y: Rasters) -> usize
+    requires { ⌜ Accepted s × Displayed s (x .0) (y .0) ⌝ }
+    ensures { λ r. ⌜ r ≡ position s (x .0) (y .0) ⌝ }
 {
-    (y - s.vds.0 as usize) * (s.de.0 as usize - s.ds.0 as usize) + (x - s.ds.0 as usize)
+    (y.0 - s.vds.0) as usize * (s.de.0 - s.ds.0) as usize + (x.0 - s.ds.0) as usize
 }
 
 fn wide(x: u8) -> u32
@@ -33,9 +35,9 @@ fn entry(table: &[u8; 256], at: usize) -> u32
 }
 
 // What the table has for the pixel of a displayed position.
-fn shown_at(s: Setting, video: &[u32], pixels: &[u8; 256], x: usize, y: usize) -> u32
-    requires { ⌜ Accepted s × Displayed s x y × (length (now video) ≡ videoWords s) ⌝ }
-    ensures { λ r. ⌜ (r ≡ getD (now (pixels .entry)) (logical s (now (video .entry)) x y) 0) × (r ≤ 255) ⌝ }
+fn shown_at(s: Setting, video: &[u32], pixels: &[u8; 256], x: Pixels, y: Rasters) -> u32
+    requires { ⌜ Accepted s × Displayed s (x .0) (y .0) × (length (now video) ≡ videoWords s) ⌝ }
+    ensures { λ r. ⌜ (r ≡ getD (now (pixels .entry)) (logical s (now (video .entry)) (x .0) (y .0)) 0) × (r ≤ 255) ⌝ }
 {
     let at = place(s, x, y);
     entry(pixels, pixel_at(video, s.depth as usize, at))
@@ -61,17 +63,17 @@ fn covered_at(
     requires { ⌜ Ready s (now video) (now cursor) × OnCursor s (now cursor) j × (i < 32) ⌝ }
     ensures { λ r. ⌜ (r ≡ cursorBright s (now (video .entry)) (now (cursor .entry)) (now (pixels .entry)) (s .vcs .0 + j) i) × (r ≤ 255) ⌝ }
 {
-    let x = s.cx.0 as usize + i;
-    if x < s.ds.0 as usize {
+    let x = Pixels(s.cx.0 + i as u16);
+    if x.0 < s.ds.0 {
         return 0;
     }
-    if x >= s.de.0 as usize {
+    if x.0 >= s.de.0 {
         return 0;
     }
     if pair_at(cursor, j, i) == 0 {
         return 0;
     }
-    shown_at(s, video, pixels, x, s.vcs.0 as usize + j)
+    shown_at(s, video, pixels, x, Rasters(s.vcs.0 + j as u16))
 }
 
 // Cursor raster j: the sum over its 32 positions.
@@ -79,11 +81,11 @@ fn covered_in(s: Setting, video: &[u32], cursor: &[u32], pixels: &[u8; 256], j: 
     requires { ⌜ Ready s (now video) (now cursor) × (j < length (now cursor) / 2) ⌝ }
     ensures { λ r. ⌜ (r ≡ cursorRaster s (now (video .entry)) (now (cursor .entry)) (now (pixels .entry)) j) × (r ≤ 8160) ⌝ }
 {
-    let y = s.vcs.0 as usize + j;
-    if y < s.vds.0 as usize {
+    let y = Rasters(s.vcs.0 + j as u16);
+    if y.0 < s.vds.0 {
         return 0;
     }
-    if y >= s.vde.0 as usize {
+    if y.0 >= s.vde.0 {
         return 0;
     }
     let mut sum: u32 = 0;

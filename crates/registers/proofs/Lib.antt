@@ -1,3 +1,4 @@
+pub mod Reserved
 pub mod Lists
 pub mod First
 pub mod Groups

@@ -9,10 +9,16 @@ use Rattle.registers.proofs.refusal.Refusal.detail.Kinds as detail-kind
 use Rattle.registers.proofs.refusal.Refusal.detail.Reads as detail-reads
 use Rattle.registers.proofs.units.Pairs.pixels.Kinds as pixels-kinds
 use Rattle.registers.proofs.units.Pairs.pixels.Reads as pixels-reads
+use Rattle.registers.proofs.units.Pixels.width_from.Kinds as width-from-kinds
+use Rattle.registers.proofs.units.Pixels.width_from.Reads as width-from-reads
+use Rattle.registers.proofs.units.Rasters.height_from.Kinds as height-from-kinds
+use Rattle.registers.proofs.units.Rasters.height_from.Reads as height-from-reads
 use Rattle.registers.proofs.units.Rasters.of_value.Kinds as of-value-kinds
 use Rattle.registers.proofs.units.Rasters.of_value.Reads as of-value-reads
 use Rattle.registers.proofs.record.is_reserved.Kinds as is-reserved-kinds
 use Rattle.registers.proofs.record.is_reserved.Reads as is-reserved-reads
+use Rattle.registers.proofs.record.Registers.addresses.Kinds as addresses-kinds
+use Rattle.registers.proofs.record.Registers.addresses.Reads as addresses-reads
 use Rattle.registers.proofs.record.Registers.new.Kinds as new-kinds
 use Rattle.registers.proofs.record.Registers.new.Reads as new-reads
 use Rattle.registers.proofs.record.Registers.store.Kinds as store-kinds
@@ -33,6 +39,8 @@ use Rattle.registers.proofs.setting.Setting.cursor_words.Kinds as curso
 use Rattle.registers.proofs.setting.Setting.cursor_words.Reads as cursor-words-reads
 use Rattle.registers.proofs.record.Registers.control.Kinds as control-kinds
 use Rattle.registers.proofs.record.Registers.control.Reads as control-reads
+use Rattle.registers.proofs.record.Registers.pixel_rate.Kinds as pixel-rate-kinds
+use Rattle.registers.proofs.record.Registers.pixel_rate.Reads as pixel-rate-reads
 use Rattle.registers.proofs.record.Registers.entries_in_use.Kinds as entries-in-use-kinds
 use Rattle.registers.proofs.record.Registers.entries_in_use.Reads as entries-in-use-reads
 use Rattle.registers.proofs.record.Registers.sub_position.Kinds as sub-position-kinds
@@ -66,11 +74,20 @@ one-detail κs a x y s t p q = p ∙ sym q
 pub one-pixels : OneAnswer 0 pixels-kinds.ps pixels-kinds.r pixels-reads.Post
 one-pixels κs a x y s t p q = p ∙ sym q
 
+pub one-width-from : OneAnswer 0 width-from-kinds.ps width-from-kinds.r width-from-reads.Post
+one-width-from κs a x y s t p q = λ i. record { 0 = (p ∙ sym q) i }
+
+pub one-height-from : OneAnswer 0 height-from-kinds.ps height-from-kinds.r height-from-reads.Post
+one-height-from κs a x y s t p q = λ i. record { 0 = (p ∙ sym q) i }
+
 pub one-of-value : OneAnswer 0 of-value-kinds.ps of-value-kinds.r of-value-reads.Post
 one-of-value κs a x y s t p q = p ∙ sym q
 
 pub one-is-reserved : OneAnswer 0 is-reserved-kinds.ps is-reserved-kinds.r is-reserved-reads.Post
 one-is-reserved κs a x y s t p q = p ∙ sym q
+
+pub one-addresses : OneAnswer 0 addresses-kinds.ps addresses-kinds.r addresses-reads.Post
+one-addresses κs a x y s t p q = p ∙ sym q
 
 pub one-new : OneAnswer 0 new-kinds.ps new-kinds.r new-reads.Post
 one-new κs a x y s t p q = p ∙ sym q
@@ -101,6 +118,9 @@ one-cursor-words κs a x y s t p q = p ∙ sym q
 
 pub one-control : OneAnswer 0 control-kinds.ps control-kinds.r control-reads.Post
 one-control κs a x y s t p q = p ∙ sym q
+
+pub one-pixel-rate : OneAnswer 0 pixel-rate-kinds.ps pixel-rate-kinds.r pixel-rate-reads.Post
+one-pixel-rate κs a x y s t p q = p ∙ sym q
 
 pub one-entries-in-use : OneAnswer 0 entries-in-use-kinds.ps entries-in-use-kinds.r entries-in-use-reads.Post
 one-entries-in-use κs a x y s t p q = p ∙ sym q

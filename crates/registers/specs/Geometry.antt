@@ -27,9 +27,13 @@ pixelsAt g address k = pixelsOf (tenBits g address) k
 abbrev pub rastersAt : Registers → ℕ → Rasters
 rastersAt g address = rastersOf (tenBits g address)
 
--- The control register: bits 3-2 choose the depth; 6 is interlace, 7 composite, 15-14 test mode.
+-- The control register: bits 1-0 choose the pixel rate, 3-2 the depth; 6 is interlace, 7 composite, 15-14 test mode.
 abbrev pub control : Registers → ℕ
 control g = valueAt g 0xE0
+
+-- The pixel rate in MHz.
+abbrev pub pixelRate : Registers → ℕ
+pixelRate g = getD (8 ∷ 12 ∷ 16 ∷ 24 ∷ []) (control g % 4) 0
 
 abbrev pub depthChoice : Registers → ℕ
 depthChoice g = control g / 4 % 4

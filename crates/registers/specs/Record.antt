@@ -1,9 +1,9 @@
 -- Register words: address and data of a word, the record, and one word stored in it.
-use Prim.Native.Nat.{ℕ, _/_, _%_, _^_}
-use mathlib.Core.Bool.{Bool, true, false, _&&_, _||_}
-use mathlib.Core.List.{[], _∷_}
+use Prim.Native.Nat.{ℕ, _*_, _/_, _%_, _^_}
+use mathlib.Core.Bool.{Bool, true, false, _||_, not}
+use mathlib.Core.List.{List, [], _∷_}
 use lib.ListN.{getD, set, replicate}
-use lib.Dec.{ltb, leb}
+use lib.Dec.{eqb}
 use Rattle.buffers.specs.Pick.{pick}
 use Rattle.registers.specs.Table.{Told, row, judged}
 use Rattle.registers.specs.declared.record.Registers.{Registers}
@@ -20,9 +20,29 @@ dataOf word = word % 2 ^ 24
 abbrev pub at : ℕ → ℕ
 at address = address / 4
 
--- The 18 addresses that no register has: 50H to 5CH, C4H to DCH, E4H to FCH.
-abbrev pub reserved : ℕ → Bool
-reserved slot = (leb (at 0x50) slot && ltb slot (at 0x60)) || (leb (at 0xC4) slot && ltb slot (at 0xE0)) || leb (at 0xE4) slot
+-- The addresses that have a register.
+abbrev pub addresses : List ℕ
+addresses =
+    -- video palette 0-15
+    0x00 ∷ 0x04 ∷ 0x08 ∷ 0x0C ∷ 0x10 ∷ 0x14 ∷ 0x18 ∷ 0x1C ∷ 0x20 ∷ 0x24 ∷ 0x28 ∷ 0x2C ∷ 0x30 ∷ 0x34 ∷ 0x38 ∷ 0x3C
+    -- border colour; cursor palette 1-3
+    ∷ 0x40 ∷ 0x44 ∷ 0x48 ∷ 0x4C
+    -- stereo 7; stereo 0-6
+    ∷ 0x60 ∷ 0x64 ∷ 0x68 ∷ 0x6C ∷ 0x70 ∷ 0x74 ∷ 0x78 ∷ 0x7C
+    -- HCR, HSWR, HBSR, HDSR, HDER, HBER, HCSR; HIR
+    ∷ 0x80 ∷ 0x84 ∷ 0x88 ∷ 0x8C ∷ 0x90 ∷ 0x94 ∷ 0x98 ∷ 0x9C
+    -- VCR, VSWR, VBSR, VDSR, VDER, VBER, VCSR, VCER
+    ∷ 0xA0 ∷ 0xA4 ∷ 0xA8 ∷ 0xAC ∷ 0xB0 ∷ 0xB4 ∷ 0xB8 ∷ 0xBC
+    -- sound frequency; control
+    ∷ 0xC0 ∷ 0xE0 ∷ []
+
+abbrev pub oneOf : List ℕ → ℕ → Bool
+oneOf [] a = false
+oneOf (x ∷ xs) a = eqb x a || oneOf xs a
+
+-- The others are reserved.
+unfoldable pub reserved : ℕ → Bool
+reserved slot = not (oneOf addresses (4 * slot))
 
 -- A fresh record has nothing written.
 abbrev pub fresh : Registers

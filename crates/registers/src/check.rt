@@ -2,7 +2,6 @@
 use crate::lowest::Fault;
 use crate::lowest::lowest;
 use crate::numbers::odd_bits;
-use crate::numbers::past;
 use crate::record::Registers;
 use crate::refusal::Answer;
 use crate::refusal::Refusal;
@@ -82,7 +81,7 @@ impl Setting {
     fn is_width_right(self) -> bool
         ensures { λ r. ⌜ r ≡ widthRule self ⌝ }
     {
-        odd_bits(past(self.de.0, self.ds.0), self.depth) == 0
+        odd_bits(self.de.width_from(self.ds), self.depth) == 0
     }
 }
 

@@ -12,6 +12,7 @@ ghost use Rattle.registers.specs.Geometry.{
   depthOf,
   displayOffset,
   entriesInUse,
+  pixelRate,
   cursorStart,
   subPosition,
   cursorOn,
@@ -23,6 +24,9 @@ ghost use Rattle.registers.specs.Record.{valueAt};
 ghost use Rattle.registers.specs.Setting.{settingOf};
 
 impl Registers {
+    // In MHz, by control bits 1-0.
+    const PIXEL_RATES: [u8; 4] = [8, 12, 16, 24];
+
     // By the depth's choice 0 to 3: bits for each pixel, the display's offset, palette entries in use.
     const DEPTHS: [u8; 4] = [1, 2, 4, 8];
 
@@ -65,6 +69,14 @@ impl Registers {
         ensures { λ r. ⌜ r ≡ control self ⌝ }
     {
         self.value(Self::CONTROL)
+    }
+
+    // The pixel rate in MHz.
+    pub fn pixel_rate(self) -> u8
+        ensures { λ r. ⌜ r ≡ pixelRate self ⌝ }
+    {
+        let choice = (self.control() % 4) as usize;
+        Self::PIXEL_RATES[choice]
     }
 
     fn depth_choice(self) -> usize

@@ -1,4 +1,5 @@
 // The register library: words, the record, units, geometry, the table of refusals, load and check.
+pub mod addresses;
 pub mod check;
 pub mod colours;
 mod geometry;

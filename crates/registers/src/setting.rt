@@ -1,5 +1,4 @@
 // A setting: the numbers of an accepted record, each with its unit, and the words that its frame needs.
-use crate::numbers::past;
 use crate::numbers::words_for;
 use crate::units::Pixels;
 use crate::units::Rasters;
@@ -47,8 +46,8 @@ impl Setting {
             return 0;
         }
         words_for(
-            past(self.de.0, self.ds.0),
-            past(self.vde.0, self.vds.0),
+            self.de.width_from(self.ds),
+            self.vde.height_from(self.vds),
             self.depth,
         )
     }
@@ -57,7 +56,7 @@ impl Setting {
         ensures { λ r. ⌜ r ≡ cursorWords self ⌝ }
     {
         if self.cursor {
-            return 2 * (past(self.vce.0, self.vcs.0) as u64);
+            return 2 * (self.vce.height_from(self.vcs).0 as u64);
         }
         0
     }

@@ -22,13 +22,13 @@ fn raster_strip(
     s: Setting,
     video: &[u32],
     cursor: &[u32],
-    y: u16,
+    y: Rasters,
 ) -> usize
-    requires { ⌜ (6144 ≤ length (now out)) × (y < s .v .0) × (pictureTold g (now video) (now cursor) ≡ given s) ⌝ }
-    ensures { λ r. ⌜ Put (now (out .entry)) (now (out .exit)) 0 (rasterStrip g s (now (video .entry)) (now (cursor .entry)) y) r ⌝ }
+    requires { ⌜ (6144 ≤ length (now out)) × (y .0 < s .v .0) × (pictureTold g (now video) (now cursor) ≡ given s) ⌝ }
+    ensures { λ r. ⌜ Put (now (out .entry)) (now (out .exit)) 0 (rasterStrip g s (now (video .entry)) (now (cursor .entry)) (y .0)) r ⌝ }
 {
     let mut cells = [0u16; 2048];
-    frame::raster(g, video, cursor, Rasters(y), &mut cells);
+    frame::raster(g, video, cursor, y, &mut cells);
     let n = s.n.0 as usize;
     pictures::guns(&cells[0..n], out)
 }
@@ -53,7 +53,7 @@ fn sheet_strip(out: &mut [u8], parts: Parts, s: Setting, words: &[u32], k: usize
         s,
         &words[video..cursor],
         &words[cursor..sound],
-        (k - 1) as u16,
+        Rasters((k - 1) as u16),
     )
 }
 

@@ -38,13 +38,13 @@ fn raster_line(
     s: Setting,
     video: &[u32],
     cursor: &[u32],
-    y: u16,
+    y: Rasters,
 ) -> usize
-    requires { ⌜ (8256 ≤ length (now out)) × (y < s .v .0) × (pictureTold g (now video) (now cursor) ≡ given s) ⌝ }
-    ensures { λ r. ⌜ Put (now (out .entry)) (now (out .exit)) 0 (rasterLine g s (now (video .entry)) (now (cursor .entry)) y) r ⌝ }
+    requires { ⌜ (8256 ≤ length (now out)) × (y .0 < s .v .0) × (pictureTold g (now video) (now cursor) ≡ given s) ⌝ }
+    ensures { λ r. ⌜ Put (now (out .entry)) (now (out .exit)) 0 (rasterLine g s (now (video .entry)) (now (cursor .entry)) (y .0)) r ⌝ }
 {
     let mut cells = [0u16; 2048];
-    frame::raster(g, video, cursor, Rasters(y), &mut cells);
+    frame::raster(g, video, cursor, y, &mut cells);
     let n = s.n.0 as usize;
     put_line(out, 0, &cells[0..n])
 }
@@ -67,7 +67,7 @@ fn picture_line(
     if (s.v.0 as usize) < k {
         return 0;
     }
-    raster_line(out, g, s, video, cursor, (k - 1) as u16)
+    raster_line(out, g, s, video, cursor, Rasters((k - 1) as u16))
 }
 
 // Line k of an opened plate.

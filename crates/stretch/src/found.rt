@@ -20,32 +20,32 @@ pub enum Found {
 }
 
 // Each displayed raster has w words, from the last one's end on.
-fn stretch_of(s: Setting, y: u16) -> Stretch
+fn stretch_of(s: Setting, y: Rasters) -> Stretch
     requires { ⌜ Accepted s ⌝ }
-    ensures { λ r. ⌜ r ≡ stretchOf s y ⌝ }
+    ensures { λ r. ⌜ r ≡ stretchOf s (y .0) ⌝ }
 {
-    if y < s.vds.0 {
+    if y.0 < s.vds.0 {
         return Stretch { start: 0, count: 0 };
     }
-    if s.vde.0 <= y {
+    if s.vde.0 <= y.0 {
         return Stretch { start: 0, count: 0 };
     }
     let w = (s.de.0 - s.ds.0) as usize * s.depth as usize / 32;
     Stretch {
-        start: (y - s.vds.0) as usize * w,
+        start: (y.0 - s.vds.0) as usize * w,
         count: w,
     }
 }
 
 // 11 for the video count alone, 12, or the stretch.
-fn judge(s: Setting, video: &[u32], y: u16) -> Found
+fn judge(s: Setting, video: &[u32], y: Rasters) -> Found
     requires { ⌜ Accepted s ⌝ }
-    ensures { λ r. ⌜ foundSays r ≡ judged (stretchTable s (now (video .entry)) y) (stretchOf s y) ⌝ }
+    ensures { λ r. ⌜ foundSays r ≡ judged (stretchTable s (now (video .entry)) (y .0)) (stretchOf s (y .0)) ⌝ }
 {
     if video.len() as u64 != s.video_words() {
         return Found::Refused(Refusal::WordCount);
     }
-    if s.v.0 <= y {
+    if s.v.0 <= y.0 {
         return Found::Refused(Refusal::Raster);
     }
     Found::At(stretch_of(s, y))
@@ -56,6 +56,6 @@ pub fn find(g: Registers, video: &[u32], y: Rasters) -> Found
 {
     match g.check() {
         Checked::Refused(why) => Found::Refused(why),
-        Checked::Accepted(s) => judge(s, video, y.0),
+        Checked::Accepted(s) => judge(s, video, y),
     }
 }

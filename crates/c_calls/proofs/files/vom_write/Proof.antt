@@ -27,10 +27,11 @@ same-length c = search needs
 returns : tie.Need-returns
 returns c =
     let args = c .before .before .before .before .before .before .before .before .before .before .before .before .before .args in
+    let call = c .before .before .before .before .before .before .write in
     sized-refused (writeTold (args .registers .now) (args .video .now) (args .cursor .now) (args .sound .now) (length (args .out .now)))
     (args .out .now) (sets (args .out .now) 0 (plateOf (args .registers .now) (args .video .now) (args .cursor .now) (args .sound .now)))
     (args .size .now) _ _ _ _
-    (sym (c .before .before .before .before .before .before .write .ensures .0) ∙ ap toldWritten (c .before .before .why .given .1)) (c .refused .ensures) (c .before .before .before .before .before .before .write .ensures .1)
+    (sym (call .ensures .0) ∙ ap toldWritten (c .before .before .why .given .1)) (c .refused .ensures) (call .ensures .1)
 
 same-length-2 : tie.Need-same-length-2
 same-length-2 c = search needs
@@ -38,10 +39,11 @@ same-length-2 c = search needs
 returns-2 : tie.Need-returns-2
 returns-2 c =
     let args = c .before .before .before .before .before .before .before .before .before .before .before .before .args in
+    let call = c .before .before .before .before .before .write in
     sized-done (writeTold (args .registers .now) (args .video .now) (args .cursor .now) (args .sound .now) (length (args .out .now)))
     (args .out .now) (sets (args .out .now) 0 (plateOf (args .registers .now) (args .video .now) (args .cursor .now) (args .sound .now)))
     (args .size .now) _ _
-    (sym (c .before .before .before .before .before .write .ensures .0) ∙ ap toldWritten (c .before .n .given .1)) (c .before .before .before .before .before .write .ensures .1)
+    (sym (call .ensures .0) ∙ ap toldWritten (c .before .n .given .1)) (call .ensures .1)
 
 pub vom-write-spec : {M : Type 1} → statement M
 vom-write-spec =

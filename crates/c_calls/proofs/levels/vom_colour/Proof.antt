@@ -17,7 +17,8 @@ unfolding colourCall
 returns c =
     let args = c .before .before .before .before .args in
     cell-refused (colourCall (args .values .now) (args .written .now) (args .depth) (args .pixel)) (args .colour .now) _ _ _
-    (sym (told-short (args .values .now) (args .written .now) (λ g. given (colourOf g (args .depth) (args .pixel))) (sym (c .before .lacks .ensures) ∙ c .if1 .taken)))
+    (sym (told-short (args .values .now) (args .written .now) (λ g. given (colourOf g (args .depth) (args .pixel)))
+    (sym (c .before .lacks .ensures) ∙ c .if1 .taken)))
     refl
 
 record-of-requires : tie.Need-record-of-requires

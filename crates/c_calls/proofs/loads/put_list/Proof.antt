@@ -35,10 +35,12 @@ loop-less c = search needs
 loop-again : tie.Need-loop-again Inv-loop μ-loop
 loop-again c =
     let loop = c .before .before .before .before .before .before .before .before .before .loop in
-    let words = c .before .before .before .before .before .before .before .before .before .before .before .before .before .args .words .now in (
+    let turn = c .before .before .before .before .before .before .before .before .loop-test .taken in
+    let words = c .before .before .before .before .before .before .before .before .before .before .before .before .before .args .words .now in
+    let put = c .before .before .before .before .put-word in (
       search needs,
-      values-turn words (loop .i) _ (loop .values) _ (c .before .before .before .before .before .before .before .before .loop-test .taken) (loop .inv .1) (c .before .before .before .before .put-word .ensures .0),
-      flags-turn words (loop .i) _ (loop .written) _ (c .before .before .before .before .before .before .before .before .loop-test .taken) (loop .inv .2) (c .before .before .before .before .put-word .ensures .1),
+      values-turn words (loop .i) _ (loop .values) _ turn (loop .inv .1) (put .ensures .0),
+      flags-turn words (loop .i) _ (loop .written) _ turn (loop .inv .2) (put .ensures .1),
     )
 
 same-length : tie.Need-same-length Inv-loop μ-loop

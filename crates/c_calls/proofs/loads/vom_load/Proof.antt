@@ -38,8 +38,8 @@ returns : tie.Need-returns
 unfolding loadValues loadWritten
 returns c =
     let args = c .before .before .before .before .before .before .before .before .before .before .args in
-    twofold-refused (loadCall (args .values .now) (args .written .now) (args .words .now)) (args .values .now) (valuesStored (args .values .now) (args .words .now))
-    (args .written .now) (flagsStored (args .written .now) (args .words .now)) _ _ _
+    twofold-refused (loadCall (args .values .now) (args .written .now) (args .words .now))
+    (args .values .now) (valuesStored (args .values .now) (args .words .now)) (args .written .now) (flagsStored (args .written .now) (args .words .now)) _ _ _
     (sym (c .before .before .before .before .judge-list .ensures) ∙ ap told (c .before .before .why .given .1)) (c .refused .ensures)
 
 same-length-3 : tie.Need-same-length-3
@@ -52,9 +52,11 @@ returns-2 : tie.Need-returns-2
 unfolding loadValues loadWritten
 returns-2 c =
     let args = c .before .before .before .before .before .before .before .before .before .before .before .before .before .before .before .args in
-    twofold-done (loadCall (args .values .now) (args .written .now) (args .words .now)) (args .values .now) (valuesStored (args .values .now) (args .words .now))
-    (args .written .now) (flagsStored (args .written .now) (args .words .now)) _ _
-    (sym (c .before .before .before .before .before .before .before .before .before .judge-list .ensures) ∙ ap told (c .before .before .before .before .before .before .before .enum-told .given .1)) (c .before .before .before .before .put-list .ensures .0) (c .before .before .before .before .put-list .ensures .1)
+    let judged = c .before .before .before .before .before .before .before .before .before .judge-list in
+    let put = c .before .before .before .before .put-list in
+    twofold-done (loadCall (args .values .now) (args .written .now) (args .words .now))
+    (args .values .now) (valuesStored (args .values .now) (args .words .now)) (args .written .now) (flagsStored (args .written .now) (args .words .now)) _ _
+    (sym (judged .ensures) ∙ ap told (c .before .before .before .before .before .before .before .enum-told .given .1)) (put .ensures .0) (put .ensures .1)
 
 pub vom-load-spec : {M : Type 1} → statement M
 vom-load-spec =

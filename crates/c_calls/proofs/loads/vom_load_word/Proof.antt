@@ -38,8 +38,8 @@ returns : tie.Need-returns
 unfolding wordValues wordWritten
 returns c =
     let args = c .before .before .before .before .before .before .before .before .before .args in
-    twofold-refused (wordCall (args .values .now) (args .written .now) (args .word)) (args .values .now) (valueStored (args .values .now) (args .word))
-    (args .written .now) (flagStored (args .written .now) (args .word)) _ _ _
+    twofold-refused (wordCall (args .values .now) (args .written .now) (args .word))
+    (args .values .now) (valueStored (args .values .now) (args .word)) (args .written .now) (flagStored (args .written .now) (args .word)) _ _ _
     (sym (c .before .before .before .before .judge-word .ensures) ∙ ap told (c .before .before .why .given .1)) (c .refused .ensures)
 
 same-length-3 : tie.Need-same-length-3
@@ -52,9 +52,11 @@ returns-2 : tie.Need-returns-2
 unfolding wordValues wordWritten
 returns-2 c =
     let args = c .before .before .before .before .before .before .before .before .before .before .before .before .before .before .args in
-    twofold-done (wordCall (args .values .now) (args .written .now) (args .word)) (args .values .now) (valueStored (args .values .now) (args .word))
-    (args .written .now) (flagStored (args .written .now) (args .word)) _ _
-    (sym (c .before .before .before .before .before .before .before .before .before .judge-word .ensures) ∙ ap told (c .before .before .before .before .before .before .before .enum-told .given .1)) (c .before .before .before .before .put-word .ensures .0) (c .before .before .before .before .put-word .ensures .1)
+    let judged = c .before .before .before .before .before .before .before .before .before .judge-word in
+    let put = c .before .before .before .before .put-word in
+    twofold-done (wordCall (args .values .now) (args .written .now) (args .word))
+    (args .values .now) (valueStored (args .values .now) (args .word)) (args .written .now) (flagStored (args .written .now) (args .word)) _ _
+    (sym (judged .ensures) ∙ ap told (c .before .before .before .before .before .before .before .enum-told .given .1)) (put .ensures .0) (put .ensures .1)
 
 pub vom-load-word-spec : {M : Type 1} → statement M
 vom-load-word-spec =

@@ -13,7 +13,8 @@ lacks-requires c κs = search needs
 returns : tie.Need-returns
 returns c =
     let args = c .before .before .before .before .before .args in
-    sound-short (args .values .now) (args .written .now) (args .words .now) (args .counter .now) (args .out .now) (sym (c .before .lacks .ensures) ∙ c .if1 .taken)
+    sound-short (args .values .now) (args .written .now) (args .words .now) (args .counter .now) (args .out .now)
+    (sym (c .before .lacks .ensures) ∙ c .if1 .taken)
 
 record-of-requires : tie.Need-record-of-requires
 record-of-requires c κs =
@@ -38,9 +39,12 @@ same-length c = search needs
 returns-2 : tie.Need-returns-2
 returns-2 c =
     let args = c .before .before .before .before .before .before .before .before .before .before .before .before .before .before .args in
+    let test = c .before .before .before .before .before .before .before .before .before in
+    let is = sym (test .before .lacks .ensures) ∙ test .if1 .left in
+    let made = c .before .before .before .before .before .before .before .before .record-of .ensures in
+    let play = c .before .before .before .before .before .play in
     sound-refused (args .values .now) (args .written .now) (args .words .now) (args .counter .now) (args .out .now) _ _ _
-    (sym (c .before .before .before .before .before .before .before .before .before .before .lacks .ensures) ∙ c .before .before .before .before .before .before .before .before .before .if1 .left) (c .before .before .before .before .before .before .before .before .record-of .ensures) (c .before .before .before .before .before .play .ensures .0) (c .before .before .before .before .before .play .ensures .2) _ _ _
-    (ap told (c .before .before .answer .given .1)) (c .refused .ensures)
+    is made (play .ensures .0) (play .ensures .2) _ _ _ (ap told (c .before .before .answer .given .1)) (c .refused .ensures)
 
 same-length-2 : tie.Need-same-length-2
 same-length-2 c = search needs
@@ -48,9 +52,12 @@ same-length-2 c = search needs
 returns-3 : tie.Need-returns-3
 returns-3 c =
     let args = c .before .before .before .before .before .before .before .before .before .before .before .before .args in
+    let test = c .before .before .before .before .before .before .before in
+    let is = sym (test .before .lacks .ensures) ∙ test .if1 .left in
+    let made = c .before .before .before .before .before .before .record-of .ensures in
+    let play = c .before .before .before .play in
     sound-done (args .values .now) (args .written .now) (args .words .now) (args .counter .now) (args .out .now) _ _ _
-    (sym (c .before .before .before .before .before .before .before .before .lacks .ensures) ∙ c .before .before .before .before .before .before .before .if1 .left) (c .before .before .before .before .before .before .record-of .ensures) (c .before .before .before .play .ensures .0) (c .before .before .before .play .ensures .2) _
-    (ap told (c .enum-told .given .1)) (c .before .before .before .play .ensures .1)
+    is made (play .ensures .0) (play .ensures .2) _ (ap told (c .enum-told .given .1)) (play .ensures .1)
 
 pub vom-sound-spec : {M : Type 1} → statement M
 vom-sound-spec =

@@ -31,7 +31,8 @@ returns-2 : tie.Need-returns-2
 unfolding textLeaves
 returns-2 c =
     let args = c .before .before .before .before .before .before .before .before .args in
-    let told = text-given (args .file .now) (args .text .now) _ (c .before .before .before .before .before .measure .ensures) (c .before .before .before .before .if1 .left) in
+    let measured = c .before .before .before .before .before .measure .ensures in
+    let told = text-given (args .file .now) (args .text .now) _ measured (c .before .before .before .before .if1 .left) in
     sized-done (textCall (args .file .now) (length (args .text .now))) (args .text .now) (sets (args .text .now) 0 (textOf (args .file .now)))
     (args .size .now) _ _ told (rw told (c .before .before .put-text .ensures))
 

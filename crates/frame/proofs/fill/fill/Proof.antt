@@ -1,3 +1,4 @@
+-- One cell over a stretch: after each turn the stretch up to k holds it, and nothing else has changed.
 use native.Mathlib.Omega.{arith}
 use Prim.Native.Nat.{_-_, _≤_}
 use mathlib.Core.Path.{_≡_, refl}
@@ -7,19 +8,26 @@ use Rattle.frame.proofs.fill.fill.Statement.{statement}
 use Rattle.frame.proofs.fill.fill.Tie as tie
 
 abbrev Inv-loop : tie.InvT-loop
-Inv-loop out₀ a b cell k₀ out k = (a ≤ k) × (k ≤ b) × Paints 0 out₀ out a k (λ i. cell)
+Inv-loop line₀ cell last k₀ line k = (k₀ ≤ k) × (k ≤ last) × Paints 0 line₀ line k₀ k (λ i. cell)
 
 abbrev μ-loop : tie.MeasureT-loop
-μ-loop out₀ a b cell k₀ out k = b - k
+μ-loop line₀ cell last k₀ line k = last - k
+
+wide-requires : tie.Need-wide-requires Inv-loop μ-loop
+wide-requires c κs = search needs
+
+wide-requires-2 : tie.Need-wide-requires-2 Inv-loop μ-loop
+wide-requires-2 c κs = search needs
 
 loop-holds : tie.Need-loop-holds Inv-loop μ-loop
-loop-holds c = (omega arith, omega arith, paint-none _ _)
+loop-holds c =
+    (omega arith, omega (arith, c .wide2 .ensures, c .before .wide .ensures, c .before .before .before .pre .0), paint-none _ _)
 
-mul-out : tie.Need-mul-out Inv-loop μ-loop
-mul-out c = search needs
+mul-line : tie.Need-mul-line Inv-loop μ-loop
+mul-line c = search needs
 
-slice-write-out : tie.Need-slice-write-out Inv-loop μ-loop
-slice-write-out c = search needs
+slice-write-line : tie.Need-slice-write-line Inv-loop μ-loop
+slice-write-line c = search needs
 
 add-k : tie.Need-add-k Inv-loop μ-loop
 add-k c = search needs
@@ -34,9 +42,11 @@ same-length : tie.Need-same-length Inv-loop μ-loop
 same-length c = c .before .loop .inv .2 .len
 
 returns : tie.Need-returns Inv-loop μ-loop
-returns c = let s = c .before .before in
-    let e : c .before .loop .k ≡ s .args .b = omega arith in
-    paints-painted (s .pre .1) (rw e at (c .before .loop .inv .2))
+returns c =
+    let s = c .before .before .before .before .before in
+    let l = c .before .loop in
+    let e : l .k ≡ s .args .end .0 = omega (arith, l .inv .1, c .loop-test .left, c .before .before .before .wide .ensures) in
+    paints-painted (s .pre .1) (rw (e, c .before .before .wide2 .ensures) at (l .inv .2))
 
 pub fill-spec : {M : Type 1} → statement M
 fill-spec =
@@ -44,9 +54,11 @@ fill-spec =
     (tie.spec
     Inv-loop
     μ-loop
+    wide-requires
+    wide-requires-2
     loop-holds
-    mul-out
-    slice-write-out
+    mul-line
+    slice-write-line
     add-k
     loop-less
     loop-again

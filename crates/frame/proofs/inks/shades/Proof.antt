@@ -1,10 +1,12 @@
-use Prim.Native.Nat.{_-_, _^_, _≤_}
+use Prim.Native.Nat.{_-_, _%_, _^_, _≤_}
 use mathlib.Core.Path.{_≡_}
 use native.Mathlib.Omega.{arith}
 use borrow.Author.Needs.{needs}
+use lib.ListN.{getD}
 use Rattle.buffers.proofs.Paints.{Paints, paint-none, paint-more, paint-as, paints-painted}
+use Rattle.colours.proofs.Bounds.{shown-below}
 use Rattle.frame.specs.Ink.{shade, entryShade}
-use Rattle.frame.proofs.Ready.{count-is, count-most, shown-below, entry-shade, entry-shade-is}
+use Rattle.frame.proofs.Ready.{count-is, count-most, entry-shade, entry-shade-is}
 use Rattle.frame.proofs.inks.shades.Statement.{statement}
 use Rattle.frame.proofs.inks.shades.Tie as tie
 
@@ -41,7 +43,10 @@ shown-requires : tie.Need-shown-requires Inv-loop μ-loop
 shown-requires c κs = search needs
 
 add-list : tie.Need-add-list Inv-loop μ-loop
-add-list c = omega (arith, c .shown .ensures, shown-below (c .before .before .before .before .before .args .g) (c .before .before .before .entries .result) (c .before .before .before .before .before .args .depth) (c .before .before .loop .p) (c .before .before .before .entries .ensures))
+add-list c =
+    let d = c .before .before .before .before .before .args .depth in
+    let p = c .before .before .loop .p in
+    omega (arith, c .shown .ensures, shown-below (getD (c .before .before .before .entries .result) (p % 16) 0) d p)
 
 mul-list-2 : tie.Need-mul-list-2 Inv-loop μ-loop
 mul-list-2 c = let d = c .before .before .before .before .before .args .depth in

@@ -1,3 +1,4 @@
+-- A raster with no cursor: its line, and where it is displayed the line's two ends with the display between them.
 use Rattle.frame.proofs.Stretches.{raster-kept, displayed-law, undisplayed-law}
 use Rattle.frame.proofs.Regions.{within-true}
 use mathlib.Core.Path.{sym, _∙_}
@@ -5,24 +6,19 @@ use borrow.Author.Needs.{needs}
 use Rattle.frame.proofs.plain.plain.Statement.{statement}
 use Rattle.frame.proofs.plain.plain.Tie as tie
 
-wide-requires : tie.Need-wide-requires
-wide-requires c κs = search needs
-
 displayed-requires : tie.Need-displayed-requires
 displayed-requires c κs = search needs
-
-wide-requires-2 : tie.Need-wide-requires-2
-wide-requires-2 c κs = search needs
 
 copy-requires : tie.Need-copy-requires
 copy-requires c κs = search needs
 
 display-requires : tie.Need-display-requires
-display-requires c κs = let s = c .before .before .before .before .before .before .before .before .before .before .before in
-    let rows = within-true _ _ _ (sym (c .before .before .before .before .before .before .before .displayed .ensures) ∙ c .before .before .before .before .before .before .if1 .taken) in (raster-kept _ _ _ (s .pre .0) (c .before .before .before .copy .ensures), rows .0, rows .1, s .pre .1)
-
-wide-requires-3 : tie.Need-wide-requires-3
-wide-requires-3 c κs = search needs
+display-requires c κs =
+    let left = c .before .before .before in
+    let test = left .before .before in
+    let s = test .before .before .before .before in
+    let rows = within-true _ _ _ (sym (test .before .displayed .ensures) ∙ test .if1 .taken) in
+    (raster-kept _ _ _ (s .pre .0) (left .copy .ensures), rows .0, rows .1, s .pre .1)
 
 copy-requires-2 : tie.Need-copy-requires-2
 copy-requires-2 c κs = search needs
@@ -31,8 +27,14 @@ same-length : tie.Need-same-length
 same-length c = search needs
 
 returns : tie.Need-returns
-returns c = let s = c .before .before .before .before .before .before .before .before .before .before .before .before .before .before .before .before .before .before .before in
-    displayed-law (s .args .s) (s .pre .0 .accepted) _ _ _ _ _ _ _ _ _ _ _ _ (s .pre .0 .room) (c .before .before .before .before .before .before .before .before .before .before .before .before .wide2 .ensures) (c .before .before .before .wide3 .ensures) (c .before .before .before .before .before .before .before .before .before .before .before .before .before .before .before .before .wide .ensures) (sym (c .before .before .before .before .before .before .before .before .before .before .before .before .before .before .before .displayed .ensures) ∙ c .before .before .before .before .before .before .before .before .before .before .before .before .before .before .if1 .taken) (c .before .before .before .before .before .before .before .before .before .before .before .copy .ensures) (c .before .before .before .before .before .before .before .display .ensures) (c .before .before .copy2 .ensures)
+returns c =
+    let right = c .before .before in
+    let shown = right .before .before .before .before in
+    let left = shown .before .before .before .before in
+    let test = left .before .before in
+    let s = test .before .before .before .before in
+    displayed-law (s .args .s) (s .pre .0 .accepted) _ _ _ _ _ _ _ _ _ (s .pre .0 .room)
+    (sym (test .before .displayed .ensures) ∙ test .if1 .taken) (left .copy .ensures) (shown .display .ensures) (right .copy2 .ensures)
 
 copy-requires-3 : tie.Need-copy-requires-3
 copy-requires-3 c κs = search needs
@@ -41,19 +43,20 @@ same-length-2 : tie.Need-same-length-2
 same-length-2 c = search needs
 
 returns-2 : tie.Need-returns-2
-returns-2 c = let s = c .before .before .before .before .before .before .before .before .before in
-    undisplayed-law (s .args .s) (s .pre .0 .accepted) _ _ _ _ _ _ _ _ (s .pre .0 .room) (c .before .before .before .before .before .before .wide .ensures) (sym (c .before .before .before .before .before .displayed .ensures) ∙ c .before .before .before .before .if1 .left) (c .before .before .copy3 .ensures)
+returns-2 c =
+    let whole = c .before .before in
+    let test = whole .before .before in
+    let s = test .before .before .before .before in
+    undisplayed-law (s .args .s) (s .pre .0 .accepted) _ _ _ _ _ _ _ (s .pre .0 .room)
+    (sym (test .before .displayed .ensures) ∙ test .if1 .left) (whole .copy3 .ensures)
 
 pub plain-spec : {M : Type 1} → statement M
 plain-spec =
     tie.close
     (tie.spec
-    wide-requires
     displayed-requires
-    wide-requires-2
     copy-requires
     display-requires
-    wide-requires-3
     copy-requires-2
     same-length
     returns

@@ -1,3 +1,4 @@
+-- One position of a cursor raster: nothing where it is not displayed or its pair is 00, else what the table has for its pixel.
 use Rattle.marks.proofs.Covering.{cursor-out, cursor-clear, cursor-shown, pair-is, raster-small, raster-displayed, raster-covered}
 use mathlib.Core.Path.{sym, _∙_}
 use native.Mathlib.Omega.{arith}
@@ -5,26 +6,20 @@ use borrow.Author.Needs.{needs}
 use Rattle.marks.proofs.cover.covered_at.Statement.{statement}
 use Rattle.marks.proofs.cover.covered_at.Tie as tie
 
-cast-x : tie.Need-cast-x
-cast-x c = search needs
+cast-t8 : tie.Need-cast-t8
+cast-t8 c = search needs
 
-add-x : tie.Need-add-x
-add-x c = search needs
-
-cast-if1 : tie.Need-cast-if1
-cast-if1 c = search needs
+add-t9 : tie.Need-add-t9
+add-t9 c = search needs
 
 returns : tie.Need-returns
 returns c =
-    let s = c .before .before .before .before .before in
+    let s = c .before .before .before .before .before .before in
     (cursor-out _ _ _ _ (s .pre .0 .accepted) _ _ (λ d. omega (arith, d .ds-x, c .if1 .taken)), omega arith)
-
-cast-if2 : tie.Need-cast-if2
-cast-if2 c = search needs
 
 returns-2 : tie.Need-returns-2
 returns-2 c =
-    let s = c .before .before .before .before .before .before .before in
+    let s = c .before .before .before .before .before .before .before .before .before in
     (cursor-out _ _ _ _ (s .pre .0 .accepted) _ _ (λ d. omega (arith, d .x-de, c .if2 .taken)), omega arith)
 
 pair-at-requires : tie.Need-pair-at-requires
@@ -32,30 +27,36 @@ pair-at-requires c κs = search needs
 
 returns-3 : tie.Need-returns-3
 returns-3 c =
-    let s = c .before .before .before .before .before .before .before .before .before in
+    let s = c .before .before .before .before .before .before .before .before .before .before .before in
     (cursor-clear _ _ _ _ (s .pre .0 .accepted) _ _ (pair-is _ _ _ _ ∙ sym (c .before .pair-at .ensures) ∙ c .if3 .taken), omega arith)
 
-cast-shown-at : tie.Need-cast-shown-at
-cast-shown-at c = let s = c .before .before .before .before .before .before .before .before .before .before in omega (arith, raster-small _ _ _ (s .pre .0) (s .pre .1 .here))
+cast-t8-2 : tie.Need-cast-t8-2
+cast-t8-2 c =
+    let s = c .before .before .before .before .before .before .before .before .before .before .before in
+    omega (arith, raster-small _ _ _ (s .pre .0) (s .pre .1 .here))
 
-add-shown-at : tie.Need-add-shown-at
-add-shown-at c = let s = c .before .before .before .before .before .before .before .before .before .before in omega (arith, raster-small _ _ _ (s .pre .0) (s .pre .1 .here))
+add-t9-2 : tie.Need-add-t9-2
+add-t9-2 c =
+    let s = c .before .before .before .before .before .before .before .before .before .before .before .before in
+    omega (arith, raster-small _ _ _ (s .pre .0) (s .pre .1 .here))
 
 shown-at-requires : tie.Need-shown-at-requires
 shown-at-requires c κs =
-    let s = c .before .before .before .before .before .before .before .before .before .before in (
-      s .pre .0 .accepted,
-      raster-displayed _ _ _ (s .pre .1) _ (c .before .before .before .before .before .if1 .left) (c .before .before .before .if2 .left),
-      s .pre .0 .video-words,
-    )
+    let right = c .before .before .before in
+    let left = right .before .before .before in
+    let s = left .before .before .before .before .before .before in
+    (s .pre .0 .accepted, raster-displayed _ _ _ (s .pre .1) _ (left .if1 .left) (right .if2 .left), s .pre .0 .video-words)
 
 returns-4 : tie.Need-returns-4
 returns-4 c =
-    let s = c .before .before .before .before .before .before .before .before .before .before .before in (
+    let test = c .before .before in
+    let right = test .before .before in
+    let left = right .before .before .before in
+    let s = left .before .before .before .before .before .before in (
       c .shown-at .ensures .0
-          ∙ cursor-shown _ _ _ _ (s .pre .0 .accepted) _ _
-          (raster-displayed _ _ _ (s .pre .1) _ (c .before .before .before .before .before .before .if1 .left) (c .before .before .before .before .if2 .left))
-          (raster-covered _ _ _ (s .pre .1) _ (s .pre .0) (s .pre .2) (λ e. c .before .before .if3 .left (c .before .before .before .pair-at .ensures ∙ sym (pair-is _ _ _ _) ∙ e))),
+          ∙ cursor-shown _ _ _ _ (s .pre .0 .accepted) _ _ (raster-displayed _ _ _ (s .pre .1) _ (left .if1 .left) (right .if2 .left))
+          (raster-covered _ _ _ (s .pre .1) _ (s .pre .0) (s .pre .2)
+          (λ e. test .if3 .left (test .before .pair-at .ensures ∙ sym (pair-is _ _ _ _) ∙ e))),
       c .shown-at .ensures .1,
     )
 
@@ -63,15 +64,13 @@ pub covered-at-spec : {M : Type 1} → statement M
 covered-at-spec =
     tie.close
     (tie.spec
-    cast-x
-    add-x
-    cast-if1
+    cast-t8
+    add-t9
     returns
-    cast-if2
     returns-2
     pair-at-requires
     returns-3
-    cast-shown-at
-    add-shown-at
+    cast-t8-2
+    add-t9-2
     shown-at-requires
     returns-4)

@@ -1,3 +1,4 @@
+-- A cursor raster: nothing where it is not displayed; else after each turn the sum is that over the positions up to i.
 use Rattle.marks.proofs.Covering.{raster-out, raster-small}
 use Rattle.marks.proofs.Totals.{sum-more}
 use Rattle.marks.specs.Bright.{cursorBright, rasterBright, cursorRaster}
@@ -9,31 +10,30 @@ use Rattle.marks.proofs.cover.covered_in.Statement.{statement}
 use Rattle.marks.proofs.cover.covered_in.Tie as tie
 
 abbrev Inv-loop : tie.InvT-loop
-Inv-loop s video cursor pixels j y sum₀ i₀ sum i = (i ≤ 32) × (sum ≡ total (cursorBright s video cursor pixels (s .vcs .0 + j)) i) × (sum ≤ 255 * i)
+Inv-loop s video cursor pixels j sum₀ i₀ sum i =
+    (i ≤ 32) × (sum ≡ total (cursorBright s video cursor pixels (s .vcs .0 + j)) i) × (sum ≤ 255 * i)
 
 abbrev μ-loop : tie.MeasureT-loop
-μ-loop s video cursor pixels j y sum₀ i₀ sum i = 32 - i
+μ-loop s video cursor pixels j sum₀ i₀ sum i = 32 - i
 
-cast-y : tie.Need-cast-y Inv-loop μ-loop
-cast-y c = omega (arith, c .struct-known .given)
+cast-t9 : tie.Need-cast-t9 Inv-loop μ-loop
+cast-t9 c =
+    let s = c .before .before in
+    omega (arith, raster-small _ _ _ (s .pre .0) (s .pre .1))
 
-add-y : tie.Need-add-y Inv-loop μ-loop
-add-y c = let s = c .before .before .before in omega (arith, raster-small _ _ _ (s .pre .0) (s .pre .1))
-
-cast-if1 : tie.Need-cast-if1 Inv-loop μ-loop
-cast-if1 c = omega (arith, c .struct-known2 .given)
+add-t10 : tie.Need-add-t10 Inv-loop μ-loop
+add-t10 c =
+    let s = c .before .before .before in
+    omega (arith, raster-small _ _ _ (s .pre .0) (s .pre .1))
 
 returns : tie.Need-returns Inv-loop μ-loop
 returns c =
-    let s = c .before .before .before .before .before in
+    let s = c .before .before .before .before .before .before in
     (raster-out _ _ _ _ (s .pre .0 .accepted) _ (λ x d. omega (arith, d .vds-y, c .if1 .taken)), omega arith)
-
-cast-if2 : tie.Need-cast-if2 Inv-loop μ-loop
-cast-if2 c = omega (arith, c .struct-known3 .given)
 
 returns-2 : tie.Need-returns-2 Inv-loop μ-loop
 returns-2 c =
-    let s = c .before .before .before .before .before .before .before in
+    let s = c .before .before .before .before .before .before .before .before .before in
     (raster-out _ _ _ _ (s .pre .0 .accepted) _ (λ x d. omega (arith, d .y-vde, c .if2 .taken)), omega arith)
 
 loop-holds : tie.Need-loop-holds Inv-loop μ-loop
@@ -42,8 +42,10 @@ loop-holds c = (omega arith, refl, omega arith)
 
 covered-at-requires : tie.Need-covered-at-requires Inv-loop μ-loop
 covered-at-requires c κs =
-    let s = c .before .before .before .before .before .before .before .before .before in
-    (s .pre .0, record { here = s .pre .1; vds-y = c .before .before .before .before .if1 .left; y-vde = c .before .before .if2 .left }, omega arith)
+    let below = c .before .before in
+    let above = below .before .before .before in
+    let s = above .before .before .before .before .before .before in
+    (s .pre .0, record { here = s .pre .1; vds-y = above .if1 .left; y-vde = below .if2 .left }, omega arith)
 
 add-sum : tie.Need-add-sum Inv-loop μ-loop
 add-sum c = omega arith
@@ -69,11 +71,9 @@ covered-in-spec =
     (tie.spec
     Inv-loop
     μ-loop
-    cast-y
-    add-y
-    cast-if1
+    cast-t9
+    add-t10
     returns
-    cast-if2
     returns-2
     loop-holds
     covered-at-requires

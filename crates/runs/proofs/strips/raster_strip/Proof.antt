@@ -34,7 +34,7 @@ same-length c = search needs
 
 returns : tie.Need-returns
 unfolding rasterStrip
-returns c = let a = picture-accepted (c .before .before .before .before .before .before .before .before .before .before .before .before .before .args .g) (c .before .before .before .before .before .before .before .before .before .before .before .before .before .args .video .now) (c .before .before .before .before .before .before .before .before .before .before .before .before .before .args .cursor .now) (c .before .before .before .before .before .before .before .before .before .before .before .before .before .args .s) (c .before .before .before .before .before .before .before .before .before .before .before .before .before .pre .2) in let k = c .before .before .before .before .before .before .before .before .raster .kept .1 .1 .1 .1 .0 in let n = c .before .before .before .before .before .before .before .before .before .before .before .before .before .args .s .n .0 in let cells = c .before .before .before .before .before .before .before .before .raster .last .1 .1 .1 .1 .0 in part-guns n _ cells _ (raster-values (c .before .before .before .before .before .before .before .before .before .before .before .before .before .args .g) (c .before .before .before .before .before .before .before .before .before .before .before .before .before .args .video .now) (c .before .before .before .before .before .before .before .before .before .before .before .before .before .args .cursor .now) (c .before .before .before .before .before .before .before .before .before .before .before .before .before .args .s) (c .before .before .before .before .before .before .before .before .before .before .before .before .before .pre .2) (c .before .before .before .before .before .before .before .before .before .before .before .before .before .args .y) _ cells (c .before .before .before .before .before .before .before .before .before .before .before .before .before .pre .1) (omega (arith, a .n-most, k)) (c .before .before .before .before .before .before .before .before .raster .ensures .1)) (omega (arith, a .n-most, k, length-take-le (n - 0) cells (omega (arith, a .n-most, k)), c .before .before .before .before .before .before .before .before .before .before .before .before .before .pre .0)) (c .before .before .guns .ensures)
+returns c = let a = picture-accepted (c .before .before .before .before .before .before .before .before .before .before .before .before .before .args .g) (c .before .before .before .before .before .before .before .before .before .before .before .before .before .args .video .now) (c .before .before .before .before .before .before .before .before .before .before .before .before .before .args .cursor .now) (c .before .before .before .before .before .before .before .before .before .before .before .before .before .args .s) (c .before .before .before .before .before .before .before .before .before .before .before .before .before .pre .2) in let k = c .before .before .before .before .before .before .before .before .raster .kept .1 .1 .1 .1 .0 in let n = c .before .before .before .before .before .before .before .before .before .before .before .before .before .args .s .n .0 in let cells = c .before .before .before .before .before .before .before .before .raster .last .1 .1 .1 .1 .0 in part-guns n _ cells _ (raster-values (c .before .before .before .before .before .before .before .before .before .before .before .before .before .args .g) (c .before .before .before .before .before .before .before .before .before .before .before .before .before .args .video .now) (c .before .before .before .before .before .before .before .before .before .before .before .before .before .args .cursor .now) (c .before .before .before .before .before .before .before .before .before .before .before .before .before .args .s) (c .before .before .before .before .before .before .before .before .before .before .before .before .before .pre .2) (c .before .before .before .before .before .before .before .before .before .before .before .before .before .args .y .0) _ cells (c .before .before .before .before .before .before .before .before .before .before .before .before .before .pre .1) (omega (arith, a .n-most, k)) (c .before .before .before .before .before .before .before .before .raster .ensures .1)) (omega (arith, a .n-most, k, length-take-le (n - 0) cells (omega (arith, a .n-most, k)), c .before .before .before .before .before .before .before .before .before .before .before .before .before .pre .0)) (c .before .before .guns .ensures)
 
 pub raster-strip-spec : {M : Type 1} → statement M
 raster-strip-spec =

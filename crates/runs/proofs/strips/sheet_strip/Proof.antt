@@ -55,11 +55,11 @@ part-raster-strip-start-2 c = search needs
 part-raster-strip-end-2 : tie.Need-part-raster-strip-end-2
 part-raster-strip-end-2 c = search needs
 
-sub-raster-strip-3 : tie.Need-sub-raster-strip-3
-sub-raster-strip-3 c = search needs
+sub-t32 : tie.Need-sub-t32
+sub-t32 c = search needs
 
-cast-raster-strip : tie.Need-cast-raster-strip
-cast-raster-strip c = search needs
+cast-t33 : tie.Need-cast-t33
+cast-t33 c = search needs
 
 raster-strip-requires : tie.Need-raster-strip-requires
 raster-strip-requires c κs = search needs
@@ -91,8 +91,8 @@ sheet-strip-spec =
     sub-raster-strip-2
     part-raster-strip-start-2
     part-raster-strip-end-2
-    sub-raster-strip-3
-    cast-raster-strip
+    sub-t32
+    cast-t33
     raster-strip-requires
     same-length-2
     returns-3)

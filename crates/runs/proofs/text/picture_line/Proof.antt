@@ -19,11 +19,11 @@ cast-if2 c = search needs
 returns-2 : tie.Need-returns-2
 returns-2 c = rw (line-none (c .before .before .before .before .before .before .args .g) (c .before .before .before .before .before .before .args .video .now) (c .before .before .before .before .before .before .args .cursor .now) (c .before .before .before .before .before .before .args .s) (c .before .before .before .before .before .before .pre .2) _ (c .before .before .if1 .left) (c .if2 .taken)) (put-nothing _)
 
-sub-raster-line : tie.Need-sub-raster-line
-sub-raster-line c = search needs
+sub-t10 : tie.Need-sub-t10
+sub-t10 c = search needs
 
-cast-raster-line : tie.Need-cast-raster-line
-cast-raster-line c = search needs
+cast-t13 : tie.Need-cast-t13
+cast-t13 c = search needs
 
 raster-line-requires : tie.Need-raster-line-requires
 raster-line-requires c κs = search needs
@@ -43,8 +43,8 @@ picture-line-spec =
     returns
     cast-if2
     returns-2
-    sub-raster-line
-    cast-raster-line
+    sub-t10
+    cast-t13
     raster-line-requires
     same-length-2
     returns-3)

@@ -35,7 +35,7 @@ same-length c = search needs
 
 returns : tie.Need-returns
 unfolding rasterLine
-returns c = let a = picture-accepted (c .before .before .before .before .before .before .before .before .before .before .before .before .before .args .g) (c .before .before .before .before .before .before .before .before .before .before .before .before .before .args .video .now) (c .before .before .before .before .before .before .before .before .before .before .before .before .before .args .cursor .now) (c .before .before .before .before .before .before .before .before .before .before .before .before .before .args .s) (c .before .before .before .before .before .before .before .before .before .before .before .before .before .pre .2) in part-put (c .before .before .before .before .before .before .before .before .before .before .before .before .before .args .s .n .0) _ _ (raster-values (c .before .before .before .before .before .before .before .before .before .before .before .before .before .args .g) (c .before .before .before .before .before .before .before .before .before .before .before .before .before .args .video .now) (c .before .before .before .before .before .before .before .before .before .before .before .before .before .args .cursor .now) (c .before .before .before .before .before .before .before .before .before .before .before .before .before .args .s) (c .before .before .before .before .before .before .before .before .before .before .before .before .before .pre .2) (c .before .before .before .before .before .before .before .before .before .before .before .before .before .args .y) _ (c .before .before .before .before .before .before .before .before .raster .last .1 .1 .1 .1 .0) (c .before .before .before .before .before .before .before .before .before .before .before .before .before .pre .1) (omega (arith, a .n-most, c .before .before .before .before .before .before .before .before .raster .kept .1 .1 .1 .1 .0)) (c .before .before .before .before .before .before .before .before .raster .ensures .1)) (c .before .before .put-line .ensures)
+returns c = let a = picture-accepted (c .before .before .before .before .before .before .before .before .before .before .before .before .before .args .g) (c .before .before .before .before .before .before .before .before .before .before .before .before .before .args .video .now) (c .before .before .before .before .before .before .before .before .before .before .before .before .before .args .cursor .now) (c .before .before .before .before .before .before .before .before .before .before .before .before .before .args .s) (c .before .before .before .before .before .before .before .before .before .before .before .before .before .pre .2) in part-put (c .before .before .before .before .before .before .before .before .before .before .before .before .before .args .s .n .0) _ _ (raster-values (c .before .before .before .before .before .before .before .before .before .before .before .before .before .args .g) (c .before .before .before .before .before .before .before .before .before .before .before .before .before .args .video .now) (c .before .before .before .before .before .before .before .before .before .before .before .before .before .args .cursor .now) (c .before .before .before .before .before .before .before .before .before .before .before .before .before .args .s) (c .before .before .before .before .before .before .before .before .before .before .before .before .before .pre .2) (c .before .before .before .before .before .before .before .before .before .before .before .before .before .args .y .0) _ (c .before .before .before .before .before .before .before .before .raster .last .1 .1 .1 .1 .0) (c .before .before .before .before .before .before .before .before .before .before .before .before .before .pre .1) (omega (arith, a .n-most, c .before .before .before .before .before .before .before .before .raster .kept .1 .1 .1 .1 .0)) (c .before .before .before .before .before .before .before .before .raster .ensures .1)) (c .before .before .put-line .ensures)
 
 pub raster-line-spec : {M : Type 1} → statement M
 raster-line-spec =

@@ -1,3 +1,4 @@
+-- A displayed raster's words: those of the rasters before it are passed over; no words where it lies before or behind the display.
 use Rattle.stretch.proofs.Stretches.{stretch-none, stretch-at, width-small, start-small}
 use Rattle.registers.proofs.Words.{depth-most, raster-words}
 use mathlib.Core.Path.{sym}
@@ -19,21 +20,30 @@ cast-w : tie.Need-cast-w
 cast-w c = search needs
 
 cast-w-2 : tie.Need-cast-w-2
-cast-w-2 c = omega (arith, depth-most (c .before .before .before .before .before .before .pre .depth))
+cast-w-2 c =
+    let s = c .before .before .before .before .before .before .before .before in
+    omega (arith, depth-most (s .pre .depth))
 
 mul-w : tie.Need-mul-w
-mul-w c = let s = c .before .before .before .before .before .before in omega (arith, width-small _ (s .args .y) (s .pre))
+mul-w c =
+    let s = c .before .before .before .before .before .before .before .before in
+    omega (arith, width-small _ (s .args .y .0) (s .pre))
 
 cast-t8 : tie.Need-cast-t8
 cast-t8 c = search needs
 
 mul-t7 : tie.Need-mul-t7
-mul-t7 c = let s = c .before .before .before .before .before .before .before in
-    omega (arith, rw (raster-words (s .args .s)) at (start-small (s .args .s) _ (s .pre) (c .before .before .before .if2 .left)))
+mul-t7 c =
+    let below = c .before .before .before .before in
+    let s = below .before .before .before .before .before .before in
+    omega (arith, rw (raster-words (s .args .s)) at (start-small (s .args .s) _ (s .pre) (below .if2 .left)))
 
 returns-3 : tie.Need-returns-3
-returns-3 c = let s = c .before .before .before .before .before .before .before in
-    rw (raster-words (s .args .s)) at (sym (stretch-at (s .args .s) (s .args .y) (c .before .before .before .before .before .if1 .left) (c .before .before .before .if2 .left)))
+returns-3 c =
+    let below = c .before .before .before .before in
+    let above = below .before .before .before in
+    let s = above .before .before .before in
+    rw (raster-words (s .args .s)) at (sym (stretch-at (s .args .s) (s .args .y .0) (above .if1 .left) (below .if2 .left)))
 
 pub stretch-of-spec : {M : Type 1} → statement M
 stretch-of-spec =
