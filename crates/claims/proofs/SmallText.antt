@@ -7,7 +7,7 @@ use lib.ListN.{length}
 use Rattle.buffers.specs.Words.{bytesOf, wordsOf}
 use Rattle.buffers.specs.Values.{valuesFrom}
 use Rattle.registers.specs.Table.{given}
-use Rattle.registers.specs.Record.{fresh, storedOf}
+use Rattle.registers.specs.Record.{reserved, fresh, storedOf}
 use Rattle.registers.specs.Load.{leading, applied, loadTold}
 use Rattle.registers.specs.Lowest.{lowest}
 use Rattle.registers.specs.Setting.{settingOf, videoWords, cursorWords}
@@ -50,15 +50,15 @@ abbrev small : Setting
 small = settingOf smallRegisters
 
 small-setting : checkTold smallRegisters ≡ given small
-unfolding storedOf applied lowest settingOf checkTold
+unfolding reserved storedOf applied lowest settingOf checkTold
 small-setting = refl
 
 small-picture : pictureTold smallRegisters smallVideo [] ≡ given small
-unfolding storedOf applied settingOf videoWords cursorWords pictureTold
+unfolding reserved storedOf applied settingOf videoWords cursorWords pictureTold
 small-picture = rw small-setting
 
 small-taken : takenTold smallPlate ≡ given tt
-unfolding plateOf bytesOf wordsOf registerWords leading loadTold readTold takenTold
+unfolding reserved plateOf bytesOf wordsOf registerWords leading loadTold readTold takenTold
 small-taken = refl
 
 small-registers : registersOf smallPlate ≡ smallRegisters
@@ -71,13 +71,13 @@ small-told = rw (small-taken, small-registers, video-back, cursor-back) small-pi
 
 -- The head: no cell of the frame is a mark.
 head : headOf smallRegisters small smallVideo [] ≡ bytes "frame 32 6 words 1 marks 0\n"
-unfolding storedOf applied lowest settingOf pixel cursorPair plainCode covered code cell frameCell total marksOf digits decimal labelled headLine headOf
+unfolding reserved storedOf applied lowest settingOf pixel cursorPair plainCode covered code cell frameCell total marksOf digits decimal labelled headLine headOf
 head = refl
 
 -- A raster's line, from its codes in runs.
 raster : (y : ℕ) (r : Codes) (rs : List Codes) → map codeOf (valuesFrom (rasterCell smallRegisters small smallVideo [] y) 0 32) ≡ spread (r ∷ rs)
     → Apart (r .code) rs → rasterLine smallRegisters small smallVideo [] y ≡ runsText (r .code) (suc (r .more)) rs ++ (10 ∷ [])
-unfolding storedOf applied settingOf rasterLine
+unfolding reserved storedOf applied settingOf rasterLine
 raster y r rs e a = line-spread (valuesFrom (rasterCell smallRegisters small smallVideo [] y) 0 32) r rs e a
 
 rasters :
@@ -87,7 +87,7 @@ rasters :
     × (rasterLine smallRegisters small smallVideo [] 3 ≡ bytes "1x4 0x3 4x4 5x8 4x4 0x9\n")
     × (rasterLine smallRegisters small smallVideo [] 4 ≡ bytes "1x4 0x3 4x16 0x9\n")
     × (rasterLine smallRegisters small smallVideo [] 5 ≡ bytes "1x4 0x28\n")
-unfolding storedOf applied settingOf pixel cursorPair plainCode covered code cell rasterCell valuesFrom lowest digits decimal run
+unfolding reserved storedOf applied settingOf pixel cursorPair plainCode covered code cell rasterCell valuesFrom lowest digits decimal run
 rasters = (
   raster 0 (4 of 3) ((28 of 2) ∷ []) refl (refl, tt),
   raster 1 (4 of 1) ((28 of 0) ∷ []) refl (refl, tt),
@@ -103,6 +103,6 @@ unfolding lineAt
 line k = rw (small-told, small-registers, video-back, cursor-back)
 
 pub small-text : textOf smallPlate ≡ smallText
-unfolding storedOf applied settingOf pictureLine firstLines textOf
+unfolding reserved storedOf applied settingOf pictureLine firstLines textOf
 small-text =
     rw (small-told, line 0 ∙ head, line 1 ∙ rasters .0, line 2 ∙ rasters .1, line 3 ∙ rasters .2, line 4 ∙ rasters .3, line 5 ∙ rasters .4, line 6 ∙ rasters .5)
