@@ -1,21 +1,18 @@
 -- Words stored in two lists are applied to their record: an unreserved word has a slot below 64, and each half of the record changes there alone.
 use Prim.Native.Nat.{ℕ, zero, suc, _+_, _<_, _≤_}
 use mathlib.Core.Path.{_≡_, refl, sym, _∙_, ap}
-use mathlib.Core.Bool.{Bool, true, false, _&&_, _||_}
+use mathlib.Core.Bool.{Bool, true, false}
 use mathlib.Core.List.{List, [], _∷_, map}
 use native.Mathlib.Numerals.{add-one}
 use native.Mathlib.Omega.{arith}
 use borrow.Author.Tests.{ltb-false}
-use lib.Dec.{ltb}
 use lib.ListN.{length, getD, set, take, drop, drop-of-length-le, length-set}
 use lib.Seq.{drop-cons}
 use Rattle.buffers.specs.Pick.{pick}
-use Rattle.buffers.proofs.Tests.{or-neither}
 use Rattle.registers.specs.Table.{Told, given, refused, row, andThen, unlessRefused}
-use Rattle.registers.specs.Record.{slotOf, reserved, stored, storedOf, wordTold}
+use Rattle.registers.specs.Record.{slotOf, reserved, storedOf}
 use Rattle.registers.specs.Load.{leading, applied, loadTable, loadTold}
-use Rattle.registers.specs.declared.record.Registers.{Registers}
-use Rattle.registers.proofs.Reserved.{gaps-reserved}
+use Rattle.registers.proofs.Reserved.{unreserved}
 use Rattle.registers.proofs.Tables.{never, given-passes}
 use Rattle.c_calls.specs.Record.{isSet, recordOf, recordTold}
 use Rattle.c_calls.specs.Load.{valueStored, flagStored, valuesStored, flagsStored, loadCall, loadValues, loadWritten, wordCall, wordValues, wordWritten}
@@ -62,11 +59,6 @@ map-set : {A B : Type 0} (f : A → B) (l : List A) (k : ℕ) (a : A) → map f 
 map-set f [] k a = refl
 map-set f (x ∷ l) zero a = refl
 map-set f (x ∷ l) (suc k) a = ap (λ m. f x ∷ m) (map-set f l k a)
-
-unreserved : (slot : ℕ) → reserved slot ≡ false → slot < 64
-unreserved slot e =
-    let high = or-neither ((ltb 19 slot && ltb slot 24) || (ltb 48 slot && ltb slot 56)) (ltb 56 slot) (gaps-reserved slot ∙ e) .1 in
-    omega (arith, ltb-false 56 slot high)
 
 -- One word.
 pub word-applied : (values written : List ℕ) (word : ℕ) → reserved (slotOf word) ≡ false

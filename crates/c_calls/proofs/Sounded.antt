@@ -1,6 +1,6 @@
 -- Sound of a record that C holds: the slices are no record, or the sound call's answer stands, with its counter in the cell where it is given.
-use Prim.Native.Nat.{ℕ, _*_}
-use mathlib.Core.Path.{_≡_, _∙_, ap, sym}
+use Prim.Native.Nat.{ℕ}
+use mathlib.Core.Path.{_≡_, _∙_, sym}
 use mathlib.Core.Bool.{true, false}
 use mathlib.Core.List.{List, [], _∷_}
 use mir.Syntax.{w16}

@@ -1,6 +1,6 @@
 -- What a number for C says is what the call tells: a refusal's number is not 0 and its detail is below 2^32 wherever its row is the first
 -- to hold, so that the one is read above 2^32 and the other below; and a refusal leaves what was lent.
-use Prim.Native.Nat.{ℕ, _+_, _*_, _/_, _%_, _^_, _<_}
+use Prim.Native.Nat.{ℕ, _+_, _*_, _^_, _<_}
 use mathlib.Core.Path.{_≡_, refl, sym, _∙_, ap}
 use mathlib.Core.Bool.{Bool, true, false}
 use mathlib.Core.List.{List, [], _∷_, _++_}

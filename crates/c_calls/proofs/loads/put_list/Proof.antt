@@ -2,7 +2,6 @@
 use borrow.Author.Needs.{needs}
 use Prim.Native.Nat.{_-_, _≤_}
 use mathlib.Core.Path.{refl, sym, _∙_}
-use native.Mathlib.Omega.{arith}
 use lib.ListN.{length}
 use Rattle.c_calls.proofs.Loading.{Storing, Flagging, values-turn, flags-turn, values-all, flags-all}
 use Rattle.c_calls.proofs.loads.put_list.Statement.{statement}
