@@ -14,7 +14,7 @@ use Rattle.registers.specs.Setting.{settingOf, videoWords, cursorWords}
 use Rattle.registers.specs.Check.{checkTold}
 use Rattle.registers.specs.Small.{smallWords, smallRegisters}
 use Rattle.registers.specs.declared.setting.Setting.{Setting}
-use Rattle.frame.specs.Pixel.{pixel, cursorPair}
+use Rattle.frame.specs.Pixel.{pixel}
 use Rattle.frame.specs.Cell.{plainCode, covered, code, cell}
 use Rattle.frame.specs.Frame.{frameCell, rasterCell}
 use Rattle.marks.specs.Count.{total}
@@ -71,7 +71,7 @@ small-told = rw (small-taken, small-registers, video-back, cursor-back) small-pi
 
 -- The head: no cell of the frame is a mark.
 head : headOf smallRegisters small smallVideo [] ≡ bytes "frame 32 6 words 1 marks 0\n"
-unfolding reserved storedOf applied lowest settingOf pixel cursorPair plainCode covered code cell frameCell total marksOf digits decimal labelled headLine headOf
+unfolding reserved storedOf applied lowest settingOf pixel plainCode covered code cell frameCell total marksOf digits decimal labelled headLine headOf
 head = refl
 
 -- A raster's line, from its codes in runs.
@@ -87,7 +87,7 @@ rasters :
     × (rasterLine smallRegisters small smallVideo [] 3 ≡ bytes "1x4 0x3 4x4 5x8 4x4 0x9\n")
     × (rasterLine smallRegisters small smallVideo [] 4 ≡ bytes "1x4 0x3 4x16 0x9\n")
     × (rasterLine smallRegisters small smallVideo [] 5 ≡ bytes "1x4 0x28\n")
-unfolding reserved storedOf applied settingOf pixel cursorPair plainCode covered code cell rasterCell valuesFrom lowest digits decimal run
+unfolding reserved storedOf applied settingOf pixel plainCode covered code cell rasterCell valuesFrom lowest digits decimal run
 rasters = (
   raster 0 (4 of 3) ((28 of 2) ∷ []) refl (refl, tt),
   raster 1 (4 of 1) ((28 of 0) ∷ []) refl (refl, tt),
