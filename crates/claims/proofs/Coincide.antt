@@ -1,6 +1,6 @@
 -- Answers coincide: for every public call of every library, the theorem of its own contract, in one list.
 -- Of `raster_words` it says that any two answers read the same words.
-pub use Rattle.registers.proofs.Unique.{one-number, one-detail, one-pixels, one-width-from, one-height-from, one-of-value, one-is-reserved, one-addresses, one-new, one-store, one-palette, one-border, one-cursor-colour, one-display-on, one-border-on, one-video-words, one-cursor-words, one-pixel-rate, one-stereo, one-sound-frequency, one-load-word, one-load, one-check, one-check-sound}
+pub use Rattle.registers.proofs.Unique.{one-number, one-detail, one-pixels, one-width-from, one-height-from, one-of-value, one-is-reserved, one-addresses, one-new, one-store, one-palette, one-border, one-cursor-colour, one-display-on, one-border-on, one-video-words, one-cursor-words, one-control, one-pixel-rate, one-entries-in-use, one-sub-position, one-cursor-on, one-setting, one-stereo, one-sound-frequency, one-load-word, one-load, one-check, one-check-sound}
 pub use Rattle.colours.proofs.Unique.{one-shown, one-colour, one-entries, one-grey, one-pin}
 pub use Rattle.frame.proofs.Unique.{one-words-wrong, one-frame, one-raster}
 pub use Rattle.marks.proofs.Unique.{one-marks}
