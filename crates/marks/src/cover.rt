@@ -17,7 +17,8 @@ fn place(s: Setting, x: Pixels, y: Rasters) -> usize
     requires { ⌜ Accepted s × Displayed s (x .0) (y .0) ⌝ }
     ensures { λ r. ⌜ r ≡ position s (x .0) (y .0) ⌝ }
 {
-    (y.0 - s.vds.0) as usize * (s.de.0 - s.ds.0) as usize + (x.0 - s.ds.0) as usize
+    (y.0 as usize - s.vds.0 as usize) * (s.de.0 as usize - s.ds.0 as usize)
+        + (x.0 as usize - s.ds.0 as usize)
 }
 
 fn wide(x: u8) -> u32
