@@ -1,4 +1,4 @@
-// What main.c measures: ours by the library's own header, and the baselines.
+// What is measured: ours by the library's own header, and the baselines.
 #include "../include/vombelishi.h"
 
 // A picture as the baselines get it: judged, with its numbers in the order of vom_check's answer, and its 13-bit colours.
@@ -24,9 +24,15 @@ static inline uint32_t grey(uint16_t colour) { return 17 * ((colour & 15) + (col
 #define NAMED(a, b) JOIN(a, b)
 #define BY(name) NAMED(name, COMPILER)
 
-void cells_gcc(const struct picture *, uint16_t *out);
-void stretches_gcc(const struct picture *, uint16_t *out);
-void stretches_clang(const struct picture *, uint16_t *out);
+#define BASELINE(by) \
+    void cells_##by(const struct picture *, uint16_t *out); \
+    void stretches_##by(const struct picture *, uint16_t *out); \
+    uint64_t count_##by(const struct picture *, uint32_t threshold); \
+    uint32_t sound_##by(const uint8_t stereo[8], const uint32_t *words, size_t, uint32_t counter, int16_t *out); \
+    void copy_##by(const uint8_t *file, size_t words, uint32_t *out); \
+    void put_##by(const uint32_t *words, size_t, uint8_t *out);
+BASELINE(gcc)
+BASELINE(clang)
 void lines_clang(const struct picture *, uint16_t *out);
 void stretches_rust(const struct picture *, uint16_t *out);
 
@@ -34,13 +40,3 @@ void stretches_rust(const struct picture *, uint16_t *out);
 struct record;
 const struct record *wrapped_record(const uint32_t values[64], const uint8_t written[64]);
 void wrapped_frame(const struct record *, const uint32_t *video, size_t, const uint32_t *cursor, size_t, uint16_t *cells, size_t);
-
-uint64_t count_gcc(const struct picture *, uint32_t threshold);
-
-uint32_t sound_gcc(const uint8_t stereo[8], const uint32_t *words, size_t, uint32_t counter, int16_t *out);
-uint32_t sound_clang(const uint8_t stereo[8], const uint32_t *words, size_t, uint32_t counter, int16_t *out);
-
-void copy_gcc(const uint8_t *file, size_t words, uint32_t *out);
-void copy_clang(const uint8_t *file, size_t words, uint32_t *out);
-void put_gcc(const uint32_t *words, size_t, uint8_t *out);
-void put_clang(const uint32_t *words, size_t, uint8_t *out);

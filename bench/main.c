@@ -2,7 +2,7 @@
 // main PRINTER PLATE: PRINTER is our program, PLATE a file that is written for it.
 // main lines: only how many times as fast our frame is as by lines with clang, for each size and depth: in the middle of many
 // paired times, and by best times.
-#include "bench.h"
+#include "works.h"
 #include <fcntl.h>
 #include <spawn.h>
 #include <stdio.h>
@@ -14,117 +14,27 @@
 
 extern char **environ;
 
-enum { LARGEST = 2048 * 1024, PLATE = 4194304, PLATE_WORDS = PLATE / 4 - 4, SOUNDS = 16384, MOST_RUNS = 7, MOST_ROUNDS = 1000 };
+enum { MOST_RUNS = 7, MOST_ROUNDS = 1000 };
 
-// All write to the same places, and what ours wrote is kept to be compared.
-static uint32_t values[64], noise[PLATE_WORDS], words_out[PLATE_WORDS], words_kept[PLATE_WORDS];
-static uint8_t written[64], file[PLATE], file_out[PLATE], file_kept[PLATE];
-static uint16_t cells[LARGEST], cells_kept[LARGEST];
-static int16_t sound_out[SOUNDS * 8], sound_kept[SOUNDS * 8];
-static uint8_t stereo[8];
-static uint32_t after;
-static uint64_t marks, length;
-static uint8_t text[16 << 20];
-static struct picture pic;
+// What ours wrote, kept to be compared.
+static uint32_t words_kept[PLATE_WORDS];
+static uint8_t file_kept[PLATE];
+static uint16_t cells_kept[LARGEST];
+static int16_t sound_kept[SOUNDS * 8];
 static const struct record *record; // the same registers in the Rust wrapper's type
 
-#define GIVEN values, 64, written, 64
-
-static void die(const char *what) {
-    fprintf(stderr, "bench: %s\n", what);
-    exit(1);
-}
-
-// ---- inputs
-
-static uint32_t registers[128];
-static size_t register_count;
-
-static void put(uint32_t address, uint32_t data) { registers[register_count++] = address << 24 | data; }
-
-static void load(void) {
-    memset(values, 0, sizeof values);
-    memset(written, 0, sizeof written);
-    if (vom_load(GIVEN, registers, register_count)) die("the registers were refused");
-    record = wrapped_record(values, written);
-}
-
-// A geometry by its positions: N HS BS DS DE BE CX, then V VS VBS VDS VDE VBE VCS VCE.
-static void set(uint32_t depth, const uint32_t x[7], const uint32_t y[8]) {
-    static const uint32_t offsets[4] = {19, 11, 7, 5};
-    uint32_t choice = depth == 8 ? 3 : depth / 2, k = offsets[choice];
-    register_count = 0;
-    put(0xE0, 3 | choice << 2);
-    for (uint32_t i = 0; i < 16; i++) put(4 * i, (i * 0x1357 + 0x2A9) & 0x1FFF);
-    put(0x40, 0xF42);
-    for (uint32_t i = 0; i < 3; i++) put(0x44 + 4 * i, 0x1111 * (i + 1) & 0x1FFF);
-    put(0x80, (x[0] - 2) / 2 << 14);
-    put(0x84, (x[1] - 2) / 2 << 14);
-    put(0x88, (x[2] - 1) / 2 << 14);
-    put(0x8C, (x[3] - k) / 2 << 14);
-    put(0x90, (x[4] - k) / 2 << 14);
-    put(0x94, (x[5] - 1) / 2 << 14);
-    put(0x98, (x[6] - 6) << 13);
-    for (uint32_t i = 0; i < 8; i++) put(0xA0 + 4 * i, (y[i] - 1) << 14);
-    load();
-    if (vom_check(GIVEN, &pic.n, 21)) die("the setting was refused");
-    for (uint32_t i = 0; i < 16; i++) pic.palette[i] = values[i];
-    pic.border_colour = values[16];
-    for (uint32_t i = 0; i < 3; i++) pic.pens[i] = values[17 + i];
-    pic.video = noise;
-    pic.shape = noise + 1000;
-}
-
-static void usual(uint32_t depth) {
-    set(depth, (uint32_t[]){1024, 72, 127, 201, 841, 941, 500}, (uint32_t[]){312, 3, 20, 30, 286, 300, 100, 132});
-}
-
-static void largest(uint32_t depth) {
-    set(depth, (uint32_t[]){2048, 4, 9, 25, 2041, 2047, 1000}, (uint32_t[]){1024, 1, 1, 2, 1023, 1024, 500, 532});
-}
-
-static void smallest(uint32_t depth) {
-    set(depth, (uint32_t[]){1024, 72, 127, 201, 841, 941, 500}, (uint32_t[]){1, 1, 1, 1, 1, 1, 1, 1});
-}
-
-// ---- what is timed
-
-#define FRAME pic.video, pic.video_words, pic.shape, pic.cursor_words
-static void ours_frame(void) { if (vom_frame(GIVEN, FRAME, cells, LARGEST)) die("the frame was refused"); }
-static void by_wrapper(void) { wrapped_frame(record, FRAME, cells, LARGEST); }
-static void ours_marks(void) { if (vom_marks(GIVEN, FRAME, 128, &marks, 1)) die("the marks were refused"); }
-static void ours_sound(void) { if (vom_sound(GIVEN, noise, SOUNDS, 5, sound_out, SOUNDS * 8, &after, 1)) die("sound was refused"); }
-static void ours_copy(void) { if (vom_copy(file, PLATE, words_out, PLATE_WORDS)) die("the copy was refused"); }
-static void ours_write(void) {
-    if (vom_write(noise, 1000, noise + 1000, 900000, noise + 901000, 100000, noise + 1001000, PLATE_WORDS - 1001000, file_out,
-                  PLATE, &length, 1)) die("the plate was refused");
-}
-
-static void per_cell(void) { cells_gcc(&pic, cells); }
-static void tuned_gcc(void) { stretches_gcc(&pic, cells); }
+static void by_wrapper(void) { wrapped_frame(record, pic.video, pic.video_words, pic.shape, pic.cursor_words, cells, LARGEST); }
 static void rust(void) { stretches_rust(&pic, cells); }
 static void set_cells(void) { memset(cells, 1, 2 * pic.n * pic.v); }
-static void count_cells(void) { marks = count_gcc(&pic, 128); }
-static void loop_sound_gcc(void) { after = sound_gcc(stereo, noise, SOUNDS, 5, sound_out); }
-static void loop_copy_gcc(void) { copy_gcc(file, PLATE_WORDS, words_out); }
-static void loop_put_gcc(void) { put_gcc(noise, PLATE_WORDS, file_out); }
 static void mem_copy(void) { memcpy(words_out, file, 4 * PLATE_WORDS); }
 static void mem_put(void) { memcpy(file_out, noise, 4 * PLATE_WORDS); }
-#ifdef CLANG
-static void tuned_clang(void) { stretches_clang(&pic, cells); }
-static void by_lines_clang(void) { lines_clang(&pic, cells); }
-static void loop_sound_clang(void) { after = sound_clang(stereo, noise, SOUNDS, 5, sound_out); }
-static void loop_copy_clang(void) { copy_clang(file, PLATE_WORDS, words_out); }
-static void loop_put_clang(void) { put_clang(noise, PLATE_WORDS, file_out); }
-#else
+#ifndef CLANG
 #define tuned_clang NULL
 #define by_lines_clang NULL
 #define loop_sound_clang NULL
 #define loop_copy_clang NULL
 #define loop_put_clang NULL
 #endif
-
-typedef void work(void);
 
 static double seconds(void) {
     struct timespec t;
@@ -174,18 +84,19 @@ static void same_frame(work *other, const char *name) {
 }
 
 static void same_frames(void) {
+    record = wrapped_record(values, written);
     memset(cells, 0xAA, sizeof cells);
     ours_frame();
     memcpy(cells_kept, cells, sizeof cells);
     same_frame(by_wrapper, "the frame by the Rust wrapper differs");
-    same_frame(per_cell, "the cell by cell frame differs");
+    same_frame(per_cell_gcc, "the cell by cell frame differs");
     same_frame(tuned_gcc, "the frame of stretches by gcc differs");
     same_frame(tuned_clang, "the frame of stretches by clang differs");
     same_frame(by_lines_clang, "the frame of lines by clang differs");
     same_frame(rust, "the Rust frame differs");
     ours_marks();
     uint64_t ours = marks;
-    count_cells();
+    count_cells_gcc();
     if (marks != ours) die("the mark counts differ");
 }
 
@@ -215,17 +126,8 @@ static void same_put(work *other) {
 
 // ---- the printer's text: by the call, and by the program as a process
 
-static void ours_text(void) { if (vom_text(file, 65536, text, sizeof text, &length, 1)) die("the text was refused"); }
-
 static void print_plate(const char *printer, const char *plate) {
-    // the largest frame, and a cursor that parts every raster into many runs
-    static uint32_t stripes[2046];
-    for (size_t i = 0; i < 2046; i++) stripes[i] = 0x11111111;
-    set(1, (uint32_t[]){2048, 4, 9, 25, 2041, 2047, 1000}, (uint32_t[]){1024, 1, 1, 2, 228, 1024, 1, 1024});
-    size_t rest = 65536 / 4 - 4 - register_count - pic.video_words - pic.cursor_words;
-    if (vom_write(registers, register_count, noise, pic.video_words, stripes, pic.cursor_words, noise, rest, file_out, PLATE,
-                  &length, 1) || length != 65536) die("the printer's plate was refused");
-    memcpy(file, file_out, length);
+    set_text();
     int out = open(plate, O_WRONLY | O_CREAT | O_TRUNC, 0644);
     if (out < 0 || write(out, file_out, length) != (ssize_t)length || close(out)) die("the printer's plate was not written");
     posix_spawn_file_actions_t actions;
@@ -257,10 +159,10 @@ static const uint32_t depths[4] = {1, 2, 4, 8};
 static void time_frames(void) {
     static const struct {
         const char *name;
-        void (*set)(uint32_t depth);
+        setting *set;
         int rounds;
     } sizes[3] = {{"1024 x 312", usual, 400}, {"2048 x 1024", largest, 60}, {"1024 x 1", smallest, 400}};
-    work *const runs[MOST_RUNS] = {ours_frame, by_wrapper, per_cell, tuned_gcc, tuned_clang, rust, set_cells};
+    work *const runs[MOST_RUNS] = {ours_frame, by_wrapper, per_cell_gcc, tuned_gcc, tuned_clang, rust, set_cells};
     printf("%-26s %9s %9s %9s %9s %9s %9s %9s\n", "frame", "ours us", "ours by", "per cell", "tuned", "tuned", "Rust", "memset");
     printf("%-26s %9s %9s %9s %9s %9s\n", "", "", "wrapper", "gcc", "gcc", "clang");
     for (int size = 0; size < 3; size++)
@@ -287,7 +189,7 @@ static double time_of(work *run) {
 
 static void print_lines(void) {
     static const struct {
-        void (*set)(uint32_t depth);
+        setting *set;
         int rounds;
     } sizes[2] = {{usual, MOST_ROUNDS}, {largest, 100}};
     static double pairs[MOST_ROUNDS];
@@ -314,15 +216,12 @@ static void time_marks(void) {
         char name[64];
         sprintf(name, "1024 x 312, depth %u", depths[i]);
         usual(depths[i]);
-        row(name, (work *const[]){ours_marks, ours_frame, count_cells}, 3, 400);
+        row(name, (work *const[]){ours_marks, ours_frame, count_cells_gcc}, 3, 400);
     }
 }
 
 static void time_sound(void) {
-    register_count = 0;
-    for (uint32_t i = 0; i < 8; i++) put(0x60 + 4 * i, stereo[(i + 7) % 8] = i < 7 ? i + 1 : 4);
-    put(0xC0, 99);
-    load();
+    set_sound();
     same_sound(loop_sound_gcc);
     same_sound(loop_sound_clang);
     printf("\n%-26s %9s %9s %9s\n", "sound", "ours us", "loop gcc", "clang");
@@ -330,9 +229,7 @@ static void time_sound(void) {
 }
 
 static void time_plates(void) {
-    ours_write();
-    if (length != PLATE) die("the plate has another length");
-    memcpy(file, file_out, PLATE);
+    set_plate();
     memcpy(file_kept, file_out, PLATE);
     ours_copy();
     memcpy(words_kept, words_out, sizeof words_out);
@@ -349,11 +246,7 @@ static void time_plates(void) {
 }
 
 int main(int count, char **words) {
-    uint32_t x = 1986;
-    for (size_t i = 0; i < PLATE_WORDS; i++) {
-        x ^= x << 13, x ^= x >> 17, x ^= x << 5;
-        noise[i] = x;
-    }
+    make_noise();
 #ifdef CLANG
     if (count == 2 && !strcmp(words[1], "lines")) {
         print_lines();

@@ -1,18 +1,18 @@
-/* The plate renderer's calls for C. Link with libc_calls.a; nothing else is needed.
+/* The plate renderer's calls for C. Link with libc_calls.a, which links into x86-64 programs alone; nothing else is
+ * needed.
  *
- * Slices. Each slice is a pointer and, right behind it, its length in elements. A pointer of an empty slice may
- * not be null. No slice that a call writes may overlap another slice of that call. Nothing is written beyond a
- * slice's end, and of a slice that is longer than needed only the first elements are used.
+ * Slices. Each slice is a pointer and, right behind it, its length in elements. The pointer of an empty slice may be
+ * NULL. Nothing is written beyond a slice's end, and of a slice that is longer than needed only the first elements
+ * are used. A pointer without a length (`count`, `colour`, `counter`, `size`) is that of one number, and may not be
+ * NULL. What a call writes may not overlap anything else that is handed to that call.
  *
  * Answers. Every call that answers uint64_t answers 0 for success, else number * 2^32 + detail, with the paper's
- * refusal numbers 1 to 15: VOM_NUMBER and VOM_DETAIL take them apart.
- *
- * Refusals. A refused call writes nothing, but for two answers that are given in any case and say so below:
- * `place` of vom_raster_words and `after` of vom_sound.
+ * refusal numbers 1 to 15: VOM_NUMBER and VOM_DETAIL take them apart. A refused call writes nothing.
  *
  * A record is two slices of VOM_REGISTERS elements: `values`, each register's data at its address / 4 (of which the
  * low 24 bits count), and `written`, a byte that is not 0 where that register was written. A fresh one is all zero.
- * A record slice that is shorter than 64 is refused with 13, before every other refusal of the call.
+ * A record slice that is shorter than 64 is refused with 13, before every other refusal of the call; of a longer one
+ * the first 64 elements count.
  *
  * A slice that is lent for an answer and is too short is refused with 13, after every other refusal of the call.
  *
@@ -35,7 +35,8 @@ extern "C" {
 #define VOM_DETAIL(answer) ((uint32_t)(answer))
 
 /* Applies register words to a record, in order. Refusals: 13 (record), 1 (more than 1,024 words), 2 (a reserved
- * address; detail: the index of the first). Writes all 64 `values` and `written` (1 or 0), or on a refusal none. */
+ * address; detail: the index of the first). Writes, for each word, its data to `values` and 1 to `written`, both at
+ * its address / 4; every other element stays as it was. */
 uint64_t vom_load(uint32_t *values, size_t values_len, uint8_t *written, size_t written_len,
                   const uint32_t *words, size_t words_len);
 
@@ -64,20 +65,20 @@ uint64_t vom_raster(const uint32_t *values, size_t values_len, const uint8_t *wr
 
 /* Where the words of raster y stand in `video`. Refusals: 13 (record), 3 to 9, 11 (video words alone), 12, 13 (`place`
  * shorter than 2). Writes the index of the first word and how many there are to `place`: 0 and 0 where the raster
- * is not displayed, and also where the call is refused, if `place` has room for both. */
+ * is not displayed. */
 uint64_t vom_raster_words(const uint32_t *values, size_t values_len, const uint8_t *written, size_t written_len,
                           const uint32_t *video, size_t video_len, uint16_t y, uint64_t *place, size_t place_len);
 
 /* Counts the display cells (code 5) of the frame whose grey is at or above the threshold. Refusals: 13 (record),
- * 3 to 9, 11, 13 (`count` empty). Writes one number to `count`. */
+ * 3 to 9, 11. Writes one number to `count`. */
 uint64_t vom_marks(const uint32_t *values, size_t values_len, const uint8_t *written, size_t written_len,
                    const uint32_t *video, size_t video_len, const uint32_t *cursor, size_t cursor_len,
-                   uint8_t threshold, uint64_t *count, size_t count_len);
+                   uint8_t threshold, uint64_t *count);
 
 /* The 13-bit colour that a logical pixel shows: by the palette entry pixel % 16, and at depth 8 by the pixel's high
- * bits too; at any other depth the entry itself. 0 where the record is too short. */
-uint16_t vom_colour(const uint32_t *values, size_t values_len, const uint8_t *written, size_t written_len,
-                    uint8_t depth, uint8_t pixel);
+ * bits too; at any other depth the entry itself. Refusal: 13 (record). Writes one colour to `colour`. */
+uint64_t vom_colour(const uint32_t *values, size_t values_len, const uint8_t *written, size_t written_len,
+                    uint8_t depth, uint8_t pixel, uint16_t *colour);
 
 /* The grey of a colour, 0 to 255; bits above 11 play no part. */
 uint8_t vom_grey(uint16_t colour);
@@ -85,13 +86,11 @@ uint8_t vom_grey(uint16_t colour);
 /* The sync pin's level, 0 low or 1 high, for a code and the control data. */
 uint8_t vom_pin(uint8_t code, uint32_t control);
 
-/* Plays words: four bytes each, low first, and for each byte a left and a right value in signed sixths. Refusals:
- * 13 (record), 3, 10 (detail: the lowest address), 13 (`out` shorter than 8 * words_len, or `after` empty). Writes
- * 8 * words_len values to `out`, and to `after` the byte counter after the last byte: or, where the call is refused,
- * the counter as it came, if `after` has room. */
+/* Plays words: four bytes each, low first, and for each byte a left and a right value in signed sixths. `counter` is
+ * the byte counter before the first byte. Refusals: 13 (record), 3, 10 (detail: the lowest address), 13 (`out` shorter
+ * than 8 * words_len). Writes 8 * words_len values to `out`, and to `counter` the byte counter after the last byte. */
 uint64_t vom_sound(const uint32_t *values, size_t values_len, const uint8_t *written, size_t written_len,
-                   const uint32_t *words, size_t words_len, uint32_t counter, int16_t *out, size_t out_len,
-                   uint32_t *after, size_t after_len);
+                   const uint32_t *words, size_t words_len, uint32_t *counter, int16_t *out, size_t out_len);
 
 /* One byte's left and right value in signed sixths for a stereo value, of which the three lowest bits count.
  * Refusals: 10 (those bits are 0; detail 0), 13 (`pair` shorter than 2). Writes two values to `pair`. */
@@ -104,17 +103,16 @@ uint64_t vom_read(const uint8_t *file, size_t file_len, uint64_t *places, size_t
 /* Copies out all words before the trailer, in order. Refusals: 14, 13 (`words` shorter than R). Writes R words. */
 uint64_t vom_copy(const uint8_t *file, size_t file_len, uint32_t *words, size_t words_len);
 
-/* Writes a plate file of four lists. Refusals: 15 (over 4,194,304 bytes), 13 (`out` shorter than the plate, or `size`
- * empty). Writes the plate to `out` and its length in bytes to `size`. */
+/* Writes a plate file of four lists. Refusals: 15 (over 4,194,304 bytes), 13 (`out` shorter than the plate). Writes
+ * the plate to `out` and its length in bytes to `size`. */
 uint64_t vom_write(const uint32_t *registers, size_t registers_len, const uint32_t *video, size_t video_len,
                    const uint32_t *cursor, size_t cursor_len, const uint32_t *sound, size_t sound_len,
-                   uint8_t *out, size_t out_len, uint64_t *size, size_t size_len);
+                   uint8_t *out, size_t out_len, uint64_t *size);
 
-/* The run printer's text of a plate file. A refused plate has a text too: the line `refused NUMBER DETAIL`. Refusals:
- * 13 (`text` shorter than the text, or `size` empty). Writes the text to `text` (no zero byte follows it) and its length
- * in bytes to `size`. */
-uint64_t vom_text(const uint8_t *file, size_t file_len, uint8_t *text, size_t text_len,
-                  uint64_t *size, size_t size_len);
+/* The run printer's text of a plate file. A refused plate has a text too: the line `refused NUMBER DETAIL`. Refusal:
+ * 13 (`text` shorter than the text). Writes the text to `text` (no zero byte follows it) and its length in bytes to
+ * `size`. */
+uint64_t vom_text(const uint8_t *file, size_t file_len, uint8_t *text, size_t text_len, uint64_t *size);
 
 #ifdef __cplusplus
 }

@@ -14,7 +14,7 @@ int main(int argc, char **argv) {
     memset(again, 0xA5, sizeof again);
     if (vom_read(file, n, places, VOM_PLACES) || vom_copy(file, n, words, 1048576)) return 1;
     size_t r = places[5], v = places[6], c = places[7], s = places[8];
-    if (vom_write(words, r - v, words + (r - v), v - c, words + (r - c), c - s, words + (r - s), s, again, sizeof again, &length, 1)) return 1;
+    if (vom_write(words, r - v, words + (r - v), v - c, words + (r - c), c - s, words + (r - s), s, again, sizeof again, &length)) return 1;
     int same = length == n && !memcmp(file, again, n) && again[n] == 0xA5;
     printf("%zu bytes, trailer %zu %zu %zu %zu, %s\n", n, r, v, c, s, same ? "written again the same" : "DIFFERS");
     return !same;

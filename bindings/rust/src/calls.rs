@@ -1,7 +1,9 @@
-//! The C calls of include/vombelishi.h: each slice is a pointer and its length in elements.
+//! The C calls themselves. include/vombelishi.h says what each takes, refuses and writes.
 //!
-//! Why handing over slices is safe: a call reads and writes within the given lengths only; it keeps no pointer; a slice
-//! that it writes overlaps no other, since Rust lends it mutably; and the pointer of an empty slice is not null.
+//! Why the other modules hand over slices safely: a call reads and writes within the given lengths only; it keeps no
+//! pointer; and what it writes overlaps nothing else, since Rust lends it mutably.
+
+#![allow(missing_docs)]
 
 #[rustfmt::skip] // a pointer and its length on one line
 extern "C" {
@@ -45,23 +47,23 @@ extern "C" {
         video: *const u32, video_len: usize,
         cursor: *const u32, cursor_len: usize,
         threshold: u8,
-        count: *mut u64, count_len: usize,
+        count: *mut u64,
     ) -> u64;
     pub fn vom_colour(
         values: *const u32, values_len: usize,
         written: *const u8, written_len: usize,
         depth: u8,
         pixel: u8,
-    ) -> u16;
+        colour: *mut u16,
+    ) -> u64;
     pub fn vom_grey(colour: u16) -> u8;
     pub fn vom_pin(code: u8, control: u32) -> u8;
     pub fn vom_sound(
         values: *const u32, values_len: usize,
         written: *const u8, written_len: usize,
         words: *const u32, words_len: usize,
-        counter: u32,
+        counter: *mut u32,
         out: *mut i16, out_len: usize,
-        after: *mut u32, after_len: usize,
     ) -> u64;
     pub fn vom_sound_pair(byte: u8, stereo: u8, pair: *mut i16, pair_len: usize) -> u64;
     pub fn vom_read(file: *const u8, file_len: usize, places: *mut u64, places_len: usize) -> u64;
@@ -72,11 +74,7 @@ extern "C" {
         cursor: *const u32, cursor_len: usize,
         sound: *const u32, sound_len: usize,
         out: *mut u8, out_len: usize,
-        size: *mut u64, size_len: usize,
+        size: *mut u64,
     ) -> u64;
-    pub fn vom_text(
-        file: *const u8, file_len: usize,
-        text: *mut u8, text_len: usize,
-        size: *mut u64, size_len: usize,
-    ) -> u64;
+    pub fn vom_text(file: *const u8, file_len: usize, text: *mut u8, text_len: usize, size: *mut u64) -> u64;
 }

@@ -1,7 +1,7 @@
 #![doc = include_str!("../README.md")]
 #![deny(missing_docs)]
 
-mod calls;
+pub mod calls;
 pub mod plate;
 mod record;
 mod refusal;

@@ -65,16 +65,10 @@ pub fn copy(file: &[u8], words: &mut [u32]) -> Result<(), Refusal> {
 
 /// Writes a plate of registers, video, cursor and sound, and tells its length: 4 bytes for each word, and 16.
 /// Refusals: 15, 13.
-pub fn write(sections: [&[u32]; 4], out: &mut [u8]) -> Result<usize, Refusal> {
-    let mut size = [0];
-    write_into(sections, out, &mut size)?;
-    Ok(size[0] as usize)
-}
-
-/// As [`write()`], the length at the start of `size`. Refusals: 15, 13.
 #[rustfmt::skip] // a pointer and its length on one line
-pub fn write_into(sections: [&[u32]; 4], out: &mut [u8], size: &mut [u64]) -> Result<(), Refusal> {
+pub fn write(sections: [&[u32]; 4], out: &mut [u8]) -> Result<usize, Refusal> {
     let [registers, video, cursor, sound] = sections;
+    let mut size = 0;
     // SAFETY: see `calls`.
     answer(unsafe {
         vom_write(
@@ -83,28 +77,17 @@ pub fn write_into(sections: [&[u32]; 4], out: &mut [u8], size: &mut [u64]) -> Re
             cursor.as_ptr(), cursor.len(),
             sound.as_ptr(), sound.len(),
             out.as_mut_ptr(), out.len(),
-            size.as_mut_ptr(), size.len(),
+            &mut size,
         )
-    })
+    })?;
+    Ok(size as usize)
 }
 
 /// Writes the run printer's text of a plate file and tells its length, [`MOST_TEXT`] at most. A refused plate has a
 /// text too: the line `refused NUMBER DETAIL`. Refusal: 13.
 pub fn text(file: &[u8], text: &mut [u8]) -> Result<usize, Refusal> {
-    let mut size = [0];
-    text_into(file, text, &mut size)?;
-    Ok(size[0] as usize)
-}
-
-/// As [`text`], the length at the start of `size`. Refusal: 13.
-#[rustfmt::skip] // a pointer and its length on one line
-pub fn text_into(file: &[u8], text: &mut [u8], size: &mut [u64]) -> Result<(), Refusal> {
+    let mut size = 0;
     // SAFETY: see `calls`.
-    answer(unsafe {
-        vom_text(
-            file.as_ptr(), file.len(),
-            text.as_mut_ptr(), text.len(),
-            size.as_mut_ptr(), size.len(),
-        )
-    })
+    answer(unsafe { vom_text(file.as_ptr(), file.len(), text.as_mut_ptr(), text.len(), &mut size) })?;
+    Ok(size as usize)
 }

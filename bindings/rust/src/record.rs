@@ -113,8 +113,7 @@ impl Record {
     }
 
     /// As [`Record::raster_words`], the index of the first word and how many there are at the start of `place`: 0 and
-    /// 0 where the raster is not displayed, and also where the call is refused, if `place` has room for both.
-    /// Refusals: 3 to 9, 11, 12, 13.
+    /// 0 where the raster is not displayed. Refusals: 3 to 9, 11, 12, 13.
     pub fn raster_words_into(&self, video: &[u32], y: u16, place: &mut [u64]) -> Result<(), Refusal> {
         // SAFETY: see `calls`.
         answer(unsafe {
@@ -130,13 +129,7 @@ impl Record {
 
     /// Counts the display cells (code 5) of the frame whose grey is at or above the threshold. Refusals: 3 to 9, 11.
     pub fn marks(&self, video: &[u32], cursor: &[u32], threshold: u8) -> Result<u64, Refusal> {
-        let mut count = [0];
-        self.marks_into(video, cursor, threshold, &mut count)?;
-        Ok(count[0])
-    }
-
-    /// As [`Record::marks`], the count at the start of `count`. Refusals: 3 to 9, 11, 13.
-    pub fn marks_into(&self, video: &[u32], cursor: &[u32], threshold: u8, count: &mut [u64]) -> Result<(), Refusal> {
+        let mut count = 0;
         // SAFETY: see `calls`.
         answer(unsafe {
             vom_marks(
@@ -145,32 +138,28 @@ impl Record {
                 video.as_ptr(), video.len(),
                 cursor.as_ptr(), cursor.len(),
                 threshold,
-                count.as_mut_ptr(), count.len(),
+                &mut count,
             )
-        })
+        })?;
+        Ok(count)
     }
 
     /// The 13-bit colour that a logical pixel shows: by the palette entry `pixel` % 16, and at depth 8 by the pixel's
     /// high bits too; at any other depth the entry itself.
     pub fn colour(&self, depth: u8, pixel: u8) -> u16 {
+        let mut colour = 0;
         // SAFETY: see `calls`.
-        unsafe { vom_colour(self.values.as_ptr(), 64, self.written.as_ptr(), 64, depth, pixel) }
+        let told = answer(unsafe {
+            vom_colour(self.values.as_ptr(), 64, self.written.as_ptr(), 64, depth, pixel, &mut colour)
+        });
+        told.expect("only a record shorter than 64 is refused");
+        colour
     }
 
     /// Plays words, four bytes each, low first: for each byte a left and a right value in signed sixths, 8 values for
-    /// each word at the start of `out`. Takes the byte counter before the first byte and tells it after the last.
-    /// Refusals: 3, 10, 13.
-    pub fn sound(&self, words: &[u32], counter: u32, out: &mut [i16]) -> Result<u32, Refusal> {
-        let mut after = [counter];
-        self.sound_into(words, counter, out, &mut after)?;
-        Ok(after[0])
-    }
-
-    /// As [`Record::sound`], the counter at the start of `after`: where the call is refused, as it came, if `after` has
-    /// room. Refusals: 3, 10, 13.
-    pub fn sound_into(
-        &self, words: &[u32], counter: u32, out: &mut [i16], after: &mut [u32],
-    ) -> Result<(), Refusal> {
+    /// each word at the start of `out`. `counter` is the byte counter before the first byte, and afterwards that after
+    /// the last; where the call is refused, it stays as it came. Refusals: 3, 10, 13.
+    pub fn sound(&self, words: &[u32], counter: &mut u32, out: &mut [i16]) -> Result<(), Refusal> {
         // SAFETY: see `calls`.
         answer(unsafe {
             vom_sound(
@@ -179,7 +168,6 @@ impl Record {
                 words.as_ptr(), words.len(),
                 counter,
                 out.as_mut_ptr(), out.len(),
-                after.as_mut_ptr(), after.len(),
             )
         })
     }

@@ -52,6 +52,41 @@ fn the_small_plate_as_text() {
     assert!(text[..size].starts_with(b"frame 32 6 words 1 marks 0\n3x4 2x28\n"));
 }
 
+/// A record that sound does not refuse.
+fn player() -> Record {
+    let stereo = [0, 1, 2, 3, 4, 5, 6, 7].map(|i| ((0x60 + 4 * i) << 24) | 4);
+    loaded(&[stereo.as_slice(), &[0xC000_0003]].concat())
+}
+
+#[test]
+fn the_counter_goes_on_or_stays() {
+    let (mut counter, mut out) = (u32::MAX, [7; 9]);
+    player().sound(&[0x2020_2020], &mut counter, &mut out).unwrap();
+    assert_eq!((counter, out), (3, [48, 48, 48, 48, 48, 48, 48, 48, 7]));
+    let refused = Record::new().sound(&[0x2020_2020], &mut counter, &mut out);
+    assert_eq!(refused, Err(Refusal { number: 3, detail: 0x60 }));
+    assert_eq!((counter, out), (3, [48, 48, 48, 48, 48, 48, 48, 48, 7]));
+}
+
+#[test]
+fn a_load_changes_the_named_registers_alone() {
+    let mut record = Record { values: [u32::MAX; 64], written: [7; 64] };
+    let mut right = record.clone();
+    record.load(&[0x8003_C000, 0xE300_000B]).unwrap();
+    (right.values[0x20], right.written[0x20]) = (0x03_C000, 1);
+    (right.values[0x38], right.written[0x38]) = (0x00_000B, 1);
+    assert_eq!(record, right);
+    assert_eq!(record.load_word(0x5000_0000), Err(Refusal { number: 2, detail: 0 }));
+    assert_eq!(record, right);
+}
+
+#[test]
+fn a_pixels_colour() {
+    let record = loaded(&[0x3C00_1FFF]);
+    assert_eq!([0x0F, 0xFF].map(|pixel| record.colour(8, pixel)), [0x1737, 0x1FFF]);
+    assert_eq!(record.colour(4, 0x0F), 0x1FFF);
+}
+
 /// Lends one place too few, and sees that what is there stays.
 fn short<T: Copy + PartialEq + From<u8>>(needed: usize, call: impl Fn(&mut [T]) -> Result<(), Refusal>) {
     let mut lent = vec![T::from(7); needed - 1];
@@ -65,21 +100,16 @@ fn short_memory() {
     let sections = places.sections(&words);
     let [registers, video, cursor, _] = sections;
     let record = loaded(registers);
-    let stereo = [0, 1, 2, 3, 4, 5, 6, 7].map(|i| ((0x60 + 4 * i) << 24) | 4);
-    let player = loaded(&[stereo.as_slice(), &[0xC000_0003]].concat());
     short(21, |setting| record.check_into(setting));
     short(192, |cells| record.frame(video, cursor, cells));
     short(32, |cells| record.raster(video, cursor, 0, cells));
     short(2, |place| record.raster_words_into(video, 0, place));
-    short(1, |count| record.marks_into(video, cursor, 0, count));
-    short(8, |out| player.sound(&[0], 0, out).map(|_| ()));
-    short(1, |after| player.sound_into(&[], 0, &mut [], after));
+    short(8, |out| player().sound(&[0], &mut 0, out));
     short(2, |pair| sound_pair_into(0, 1, pair));
     short(9, |numbers| plate::read_into(SMALL, numbers));
     short(31, |words| plate::copy(SMALL, words));
     short(140, |out| plate::write(sections, out).map(|_| ()));
-    short(1, |size| plate::write_into(sections, &mut [0; 140], size));
-    short(1, |size| plate::text_into(SMALL, &mut [0; 200], size));
+    short(112, |text| plate::text(SMALL, text).map(|_| ()));
 }
 
 #[test]

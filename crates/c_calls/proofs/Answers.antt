@@ -1,12 +1,12 @@
--- The numbers that calls answer, by what they tell, and the places lent for their values.
+-- The numbers that calls answer and what their lent places hold, by what the calls tell: a refusal or a value is put in for the call, and both sides compute.
 use Prim.Native.Nat.{ℕ, _+_, _*_, _^_, _≤_, _<_}
-use mathlib.Core.Path.{_≡_, refl}
-use mathlib.Core.List.{List, [], _∷_}
+use mathlib.Core.Path.{_≡_}
+use mathlib.Core.List.{List}
 use borrow.Author.Tests.{lt-ltb, le-ltb}
 use lib.ListN.{length}
 use lib.Seq.{sets}
 use Rattle.registers.specs.Table.{Told, given, refused, andThen, unlessRefused}
-use Rattle.c_calls.specs.Code.{codeOf, withRoom, storedBy}
+use Rattle.c_calls.specs.Code.{codeOf, withRoom, storedBy, cellBy}
 
 -- 13 · 2^32
 abbrev pub short : ℕ
@@ -15,16 +15,6 @@ short = 55834574848
 -- A number that is a refusal's.
 abbrev pub Refuses : ℕ → ℕ → ℕ → Type 0
 Refuses n d r = r ≡ n * 2 ^ 32 + d
-
-module _ {A : Type 0} (needed room : ℕ) where
-  pub room-enough : (t : Told A) → needed ≤ room → withRoom needed room t ≡ t
-  room-enough (given a) h = rw (le-ltb room needed h)
-  room-enough (refused n d) h = refl
-
-  -- without room nothing is stored
-  pub room-short : {B : Type 0} (t : Told A) (was then : B) → room < needed → was ≡ unlessRefused (withRoom needed room t) was then
-  room-short (given a) was then h = rw (lt-ltb room needed h)
-  room-short (refused n d) was then h = refl
 
 -- A call whose values are a list.
 module _ {A B : Type 0} (t : Told A) (values : A → List B) (needed : ℕ) (out : List B) where
@@ -43,6 +33,35 @@ module _ {A B : Type 0} (t : Told A) (values : A → List B) (needed : ℕ) (out
   pub listed-done : (a : A) (after : List B) → t ≡ given a → needed ≤ length out → after ≡ sets out 0 (values a) → Listed 0 after
   listed-done a after e h k = let l = le-ltb (length out) needed h in (rw (e, l), rw (e, l) k)
 
--- One value as a list.
-abbrev pub one : ℕ → List ℕ
-one n = n ∷ []
+-- A call whose value has a cell.
+module _ {A : Type 0} (t : Told A) (cell : A) where
+  abbrev pub Celled : ℕ → A → Type 0
+  Celled r after = (r ≡ codeOf t) × (after ≡ cellBy t cell)
+
+  pub cell-refused : (n d r : ℕ) → t ≡ refused n d → Refuses n d r → Celled r cell
+  cell-refused n d r e k = (rw e k, rw e)
+
+  pub cell-done : (a : A) → t ≡ given a → Celled 0 a
+  cell-done a e = (rw e, rw e)
+
+-- A call that fills a list and gives its length to a cell.
+module _ (t : Told ℕ) (out filled : List ℕ) (size : ℕ) where
+  abbrev pub Sized : ℕ → List ℕ → ℕ → Type 0
+  Sized r after n = (r ≡ codeOf t) × (after ≡ unlessRefused t out filled) × (n ≡ cellBy t size)
+
+  pub sized-refused : (n d r : ℕ) (after : List ℕ) → t ≡ refused n d → Refuses n d r → after ≡ unlessRefused t out filled → Sized r after size
+  sized-refused n d r after e k h = (rw e k, h, rw e)
+
+  pub sized-done : (n : ℕ) (after : List ℕ) → t ≡ given n → after ≡ unlessRefused t out filled → Sized 0 after n
+  sized-done n after e h = (rw e, h, rw e)
+
+-- A call that changes two memories.
+module _ {B C : Type 0} (t : Told (Unit {0})) (one one′ : B) (two two′ : C) where
+  abbrev pub Twofold : ℕ → B → C → Type 0
+  Twofold r x y = (r ≡ codeOf t) × (x ≡ unlessRefused t one one′) × (y ≡ unlessRefused t two two′)
+
+  pub twofold-refused : (n d r : ℕ) → t ≡ refused n d → Refuses n d r → Twofold r one two
+  twofold-refused n d r e k = (rw e k, rw e, rw e)
+
+  pub twofold-done : (x : B) (y : C) → t ≡ given tt → x ≡ one′ → y ≡ two′ → Twofold 0 x y
+  twofold-done x y e h k = (rw e, rw e h, rw e k)

@@ -3,6 +3,5 @@ pub mod Answers
 pub mod Loading
 pub mod Pictured
 pub mod Sounded
-pub mod Written
 pub mod Text
 pub mod Unique

@@ -1,25 +1,19 @@
--- Pictures of a record that C holds.
-use Prim.Native.Nat.{ℕ, _≤_, _<_}
+-- Pictures of a record that C holds: the slices are no record and nothing else is looked at, or the call of the record answers.
+use Prim.Native.Nat.{ℕ}
 use mathlib.Core.Path.{_≡_, sym, _∙_, ap}
 use mathlib.Core.Bool.{Bool, true, false}
 use mathlib.Core.List.{List, [], _∷_}
-use borrow.Author.Tests.{lt-ltb, le-ltb}
-use lib.Dec.{ltb}
-use lib.ListN.{length}
-use lib.Seq.{sets}
-use Rattle.buffers.specs.Pick.{pick}
-use Rattle.registers.specs.Table.{Told, given, refused, andThen, row, judged}
+use Rattle.registers.specs.Table.{Told, given, andThen, row, judged}
 use Rattle.registers.specs.Check.{checkTold}
 use Rattle.registers.specs.declared.record.Registers.{Registers}
 use Rattle.registers.specs.declared.setting.Setting.{Setting}
 use Rattle.registers.proofs.Tables.{never}
 use Rattle.registers.proofs.Accepted.{Accepted, accepted}
 use Rattle.stretch.specs.declared.found.Stretch.{Stretch}
-use Rattle.c_calls.specs.Code.{codeOf, withRoom}
+use Rattle.c_calls.specs.Code.{codeOf}
 use Rattle.c_calls.specs.Record.{lacking, recordOf, recordTold, underRecord}
 use Rattle.c_calls.specs.Settings.{settingTold}
-use Rattle.c_calls.specs.Pictures.{placeOf, pairHeld}
-use Rattle.c_calls.proofs.Answers.{short, Refuses}
+use Rattle.c_calls.proofs.Answers.{short}
 use Rattle.c_calls.proofs.Records.{no-record, a-record}
 
 -- A call that tells and leaves something, by a record.
@@ -46,17 +40,6 @@ setting-accepted values written s e = accepted (recordOf values written) s (go (
     go true h = never (sym h)
     go false h = h
 
--- Where a raster's words stand.
-module _ (t : Told Stretch) (place : List ℕ) where
-  abbrev pub Placed : ℕ → List ℕ → Type 0
-  Placed r after =
-      (r ≡ codeOf (withRoom 2 (length place) t)) × (after ≡ pick (ltb (length place) 2) place (sets place 0 (placeOf t)))
-
-  pub place-refused : (n d r : ℕ) (after : List ℕ) → t ≡ refused n d → after ≡ pairHeld place 0 0 → Refuses n d r → Placed r after
-  place-refused n d r after e h k = (rw e k, rw e h)
-
-  pub place-short : (p : Stretch) → t ≡ given p → length place < 2 → Placed short place
-  place-short p e h = let l = lt-ltb (length place) 2 h in (rw (e, l), rw (e, l))
-
-  pub place-done : (p : Stretch) (after : List ℕ) → t ≡ given p → 2 ≤ length place → after ≡ pairHeld place (p .start) (p .count) → Placed 0 after
-  place-done p after e h k = let l = le-ltb (length place) 2 h in (rw (e, l), rw e k)
+-- Where words stand, as two numbers.
+abbrev pub placeOf : Stretch → List ℕ
+placeOf p = p .start ∷ p .count ∷ []

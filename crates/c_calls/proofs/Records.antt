@@ -1,4 +1,4 @@
--- A record made of two lists, and what two lists tell.
+-- A record made of two lists: a list of 64 whose every place was set by a rule is that rule's list; and what two lists tell, by their lengths.
 use Prim.Native.Nat.{ℕ, zero, suc, _≤_, _<_}
 use mathlib.Core.Bool.{Bool, true, false, cond, _||_}
 use mathlib.Core.Path.{_≡_, refl, sym, _∙_, ap}
@@ -11,8 +11,9 @@ use mir.Val.{boolByte}
 use borrow.Author.Tests.{ltb-false}
 use Rattle.buffers.proofs.Paints.{Paints}
 use Rattle.buffers.proofs.Tests.{no}
-use Rattle.registers.specs.Table.{Told, given, refused, andThen}
+use Rattle.registers.specs.Table.{Told, given, refused, row, judged, andThen}
 use Rattle.registers.specs.declared.record.Registers.{Registers}
+use Rattle.registers.proofs.Tables.{never}
 use Rattle.c_calls.specs.Record.{isSet, recordOf, lacking, recordTold}
 
 -- The rules by which the two lists are copied.
@@ -70,6 +71,15 @@ module _ (values written : List ℕ) where
 
   -- A call of a record: what it tells where there is one, and where there is none.
   module _ {A : Type 0} (call : Registers → Told A) where
+    pub not-short : (a : A) → andThen (recordTold values written) call ≡ given a → (64 ≤ length values) × (64 ≤ length written)
+    unfolding recordTold
+    not-short a e = go (lacking values written) refl e
+      where
+        go : (b : Bool) → lacking values written ≡ b → andThen (judged (row 13 b 0 ∷ []) (recordOf values written)) call ≡ given a
+            → (64 ≤ length values) × (64 ≤ length written)
+        go true l h = never (sym h)
+        go false l h = long-enough l
+
     pub told-short : lacking values written ≡ true → refused 13 0 ≡ andThen (recordTold values written) call
     told-short e = sym (ap (λ (t : Told Registers). andThen t call) (no-record e))
 

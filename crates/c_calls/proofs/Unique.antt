@@ -39,12 +39,6 @@ use Rattle.c_calls.proofs.sounds.vom_sound_pair.Kinds as vom-sound-pair
 use Rattle.c_calls.proofs.sounds.vom_sound_pair.Reads as vom-sound-pair-reads
 use Rattle.c_calls.proofs.texts.vom_text.Kinds as vom-text-kinds
 use Rattle.c_calls.proofs.texts.vom_text.Reads as vom-text-reads
-use Rattle.registers.proofs.Told.{same-answer}
-use Rattle.c_calls.proofs.settings.judge_sound.Kinds as judge-sound-kinds
-use Rattle.c_calls.proofs.settings.judge_sound.Reads as judge-sound-reads
-
-pub one-judge-sound : OneAnswer 2 judge-sound-kinds.ps judge-sound-kinds.r judge-sound-reads.Post
-one-judge-sound κs a x y s t p q = same-answer x y (p ∙ sym q)
 
 pub one-vom-read : OneState 2 vom-read-kinds.ps vom-read-kinds.r (λ κs s. now (s .1 .0)) vom-read-reads.Post
 one-vom-read κs a x y s t p q = (p .0 ∙ sym (q .0), p .1 ∙ sym (q .1))
@@ -52,11 +46,12 @@ one-vom-read κs a x y s t p q = (p .0 ∙ sym (q .0), p .1 ∙ sym (q .1))
 pub one-vom-copy : OneState 2 vom-copy-kinds.ps vom-copy-kinds.r (λ κs s. now (s .1 .0)) vom-copy-reads.Post
 one-vom-copy κs a x y s t p q = (p .0 ∙ sym (q .0), p .1 ∙ sym (q .1))
 
-pub one-vom-write : OneState {A = List ℕ × List ℕ} 6 vom-write-kinds.ps vom-write-kinds.r (λ κs s. (now (s .1 .1 .1 .1 .0), now (s .1 .1 .1 .1 .1 .0))) vom-write-reads.Post
+pub one-vom-write : OneState {A = List ℕ × ℕ} 6 vom-write-kinds.ps vom-write-kinds.r
+    (λ κs s. (now (s .1 .1 .1 .1 .0), now (s .1 .1 .1 .1 .1 .0))) vom-write-reads.Post
 one-vom-write κs a x y s t p q = (p .0 ∙ sym (q .0), λ i. ((p .1 ∙ sym (q .1)) i, (p .2 ∙ sym (q .2)) i))
 
-pub one-vom-colour : OneAnswer 2 vom-colour-kinds.ps vom-colour-kinds.r vom-colour-reads.Post
-one-vom-colour κs a x y s t p q = p ∙ sym q
+pub one-vom-colour : OneState 3 vom-colour-kinds.ps vom-colour-kinds.r (λ κs s. now (s .1 .1 .1 .1 .0)) vom-colour-reads.Post
+one-vom-colour κs a x y s t p q = (p .0 ∙ sym (q .0), p .1 ∙ sym (q .1))
 
 pub one-vom-grey : OneAnswer 0 vom-grey-kinds.ps vom-grey-kinds.r vom-grey-reads.Post
 one-vom-grey κs a x y s t p q = p ∙ sym q
@@ -67,7 +62,8 @@ one-vom-pin κs a x y s t p q = p ∙ sym q
 pub one-vom-load : OneState {A = List ℕ × List ℕ} 3 vom-load-kinds.ps vom-load-kinds.r (λ κs s. (now (s .0), now (s .1 .0))) vom-load-reads.Post
 one-vom-load κs a x y s t p q = (p .0 ∙ sym (q .0), λ i. ((p .1 ∙ sym (q .1)) i, (p .2 ∙ sym (q .2)) i))
 
-pub one-vom-load-word : OneState {A = List ℕ × List ℕ} 2 vom-load-word-kinds.ps vom-load-word-kinds.r (λ κs s. (now (s .0), now (s .1 .0))) vom-load-word-reads.Post
+pub one-vom-load-word : OneState {A = List ℕ × List ℕ} 2 vom-load-word-kinds.ps vom-load-word-kinds.r
+    (λ κs s. (now (s .0), now (s .1 .0))) vom-load-word-reads.Post
 one-vom-load-word κs a x y s t p q = (p .0 ∙ sym (q .0), λ i. ((p .1 ∙ sym (q .1)) i, (p .2 ∙ sym (q .2)) i))
 
 pub one-vom-frame : OneState 5 vom-frame-kinds.ps vom-frame-kinds.r (λ κs s. now (s .1 .1 .1 .1 .0)) vom-frame-reads.Post
@@ -88,11 +84,12 @@ one-vom-check κs a x y s t p q = (p .0 ∙ sym (q .0), p .1 ∙ sym (q .1))
 pub one-vom-check-sound : OneAnswer 2 vom-check-sound-kinds.ps vom-check-sound-kinds.r vom-check-sound-reads.Post
 one-vom-check-sound κs a x y s t p q = p ∙ sym q
 
-pub one-vom-sound : OneState {A = List ℤ × List ℕ} 5 vom-sound-kinds.ps vom-sound-kinds.r (λ κs s. (now (s .1 .1 .1 .1 .0), now (s .1 .1 .1 .1 .1 .0))) vom-sound-reads.Post
+pub one-vom-sound : OneState {A = ℕ × List ℤ} 5 vom-sound-kinds.ps vom-sound-kinds.r
+    (λ κs s. (now (s .1 .1 .1 .0), now (s .1 .1 .1 .1 .0))) vom-sound-reads.Post
 one-vom-sound κs a x y s t p q = (p .0 ∙ sym (q .0), λ i. ((p .1 ∙ sym (q .1)) i, (p .2 ∙ sym (q .2)) i))
 
 pub one-vom-sound-pair : OneState 1 vom-sound-pair-kinds.ps vom-sound-pair-kinds.r (λ κs s. now (s .1 .1 .0)) vom-sound-pair-reads.Post
 one-vom-sound-pair κs a x y s t p q = (p .0 ∙ sym (q .0), p .1 ∙ sym (q .1))
 
-pub one-vom-text : OneState {A = List ℕ × List ℕ} 3 vom-text-kinds.ps vom-text-kinds.r (λ κs s. (now (s .1 .0), now (s .1 .1 .0))) vom-text-reads.Post
+pub one-vom-text : OneState {A = List ℕ × ℕ} 3 vom-text-kinds.ps vom-text-kinds.r (λ κs s. (now (s .1 .0), now (s .1 .1 .0))) vom-text-reads.Post
 one-vom-text κs a x y s t p q = (p .0 ∙ sym (q .0), λ i. ((p .1 ∙ sym (q .1)) i, (p .2 ∙ sym (q .2)) i))

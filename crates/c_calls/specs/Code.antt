@@ -10,7 +10,7 @@ abbrev pub codeOf : {A : Type 0} → Told A → ℕ
 codeOf (given a) = 0
 codeOf (refused n d) = n * 2 ^ 32 + d
 
--- 13 where a place lent for the answer is too short, after every refusal of the call itself.
+-- 13 where a slice lent for the answer is too short, after every refusal of the call itself.
 abbrev pub withRoom : {A : Type 0} → ℕ → ℕ → Told A → Told A
 withRoom needed room told = andThen told (λ a. judged (row 13 (ltb room needed) 0 ∷ []) a)
 
@@ -18,3 +18,8 @@ withRoom needed room told = andThen told (λ a. judged (row 13 (ltb room needed)
 abbrev pub storedBy : {A : Type 0} → Told (List A) → List A → List A
 storedBy (given values) was = sets was 0 values
 storedBy (refused n d) was = was
+
+-- The value given, in the cell that is lent for it; where the call is refused, the cell holds what it held.
+abbrev pub cellBy : {A : Type 0} → Told A → A → A
+cellBy (given value) was = value
+cellBy (refused n d) was = was

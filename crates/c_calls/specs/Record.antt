@@ -1,10 +1,9 @@
 -- A register record as two lent lists, of which the first 64 count: the data, and a byte for each register that is not 0 where it was written.
 use Prim.Native.Nat.{ℕ}
-use mathlib.Core.Bool.{Bool, false, cond, not, _||_}
+use mathlib.Core.Bool.{Bool, not, _||_}
 use mathlib.Core.List.{List, [], _∷_, map}
 use lib.Dec.{ltb, eqb}
-use lib.ListN.{length, getD, take}
-use Rattle.buffers.specs.Painted.{painted}
+use lib.ListN.{length, take}
 use Rattle.registers.specs.Table.{Told, given, refused, row, judged}
 use Rattle.registers.specs.declared.record.Registers.{Registers}
 
@@ -26,16 +25,3 @@ recordTold values written = judged (row 13 (lacking values written) 0 ∷ []) (r
 abbrev pub underRecord : {B : Type 0} → Told Registers → B → (Registers → B) → B
 underRecord (given g) was then = then g
 underRecord (refused n d) was then = was
-
--- A record stored: its 64 data, and 1 for each register that was written, else 0.
-abbrev pub valueIn : Registers → ℕ → ℕ
-valueIn g slot = getD (g .values) slot 0
-
-abbrev pub byteIn : Registers → ℕ → ℕ
-byteIn g slot = cond (getD (g .written) slot false) 1 0
-
-abbrev pub valuesHeld : Registers → List ℕ → List ℕ
-valuesHeld g was = painted was 0 64 (valueIn g)
-
-abbrev pub writtenHeld : Registers → List ℕ → List ℕ
-writtenHeld g was = painted was 0 64 (byteIn g)

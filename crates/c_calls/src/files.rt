@@ -11,8 +11,9 @@ ghost use Prim.Native.Nat.{_≤_};
 ghost use lib.ListN.{length};
 ghost use lib.Seq.{sets};
 ghost use Rattle.plates.specs.Read.{copyTold, copyLeaves};
-ghost use Rattle.c_calls.specs.Code.{codeOf, storedBy};
-ghost use Rattle.c_calls.specs.Files.{nineOf, readCall, writeCall, plateLeaves, lengthLeaves};
+ghost use Rattle.plates.specs.Write.{writeTold, writeLeaves};
+ghost use Rattle.c_calls.specs.Code.{codeOf, storedBy, cellBy};
+ghost use Rattle.c_calls.specs.Files.{nineOf, readCall};
 
 fn put_sections(p: Sections, out: &mut [u64])
     requires { ⌜ 9 ≤ length (now out) ⌝ }
@@ -63,20 +64,7 @@ pub extern "C" fn vom_copy(file: &[u8], words: &mut [u32]) -> u64
     answered(plates::copy_out(file, words))
 }
 
-// The answer where the length has no place: 15, else 13.
-fn refuse_unmeasured(registers: &[u32], video: &[u32], cursor: &[u32], sound: &[u32]) -> u64
-    ensures { λ r. ⌜
-        r ≡ codeOf (writeCall (now (registers .entry)) (now (video .entry)) (now (cursor .entry)) (now (sound .entry)) 1 0)
-        ⌝ }
-{
-    let mut none = [0u8; 1];
-    match plates::write(registers, video, cursor, sound, &mut none) {
-        Writing::Refused(why) => refused(why),
-        Writing::Bytes(_) => SHORT,
-    }
-}
-
-// A plate of four lists, and its length in bytes; 15, then 13 for `out`, 13 for `size`.
+// A plate of four lists, and its length in bytes; 15, then 13 for `out`.
 #[no_mangle]
 pub extern "C" fn vom_write(
     registers: &[u32],
@@ -84,23 +72,21 @@ pub extern "C" fn vom_write(
     cursor: &[u32],
     sound: &[u32],
     out: &mut [u8],
-    size: &mut [u64],
+    size: &mut u64,
 ) -> u64
     ensures { λ r. ⌜
-        (r ≡ codeOf (writeCall (now (registers .entry)) (now (video .entry)) (now (cursor .entry)) (now (sound .entry)) (length (now (out .entry))) (length (now (size .entry)))))
+        (r ≡ codeOf (writeTold (now (registers .entry)) (now (video .entry)) (now (cursor .entry)) (now (sound .entry)) (length (now (out .entry)))))
         × (now (out .exit)
-        ≡ plateLeaves (now (registers .entry)) (now (video .entry)) (now (cursor .entry)) (now (sound .entry)) (now (out .entry)) (length (now (size .entry))))
+        ≡ writeLeaves (now (registers .entry)) (now (video .entry)) (now (cursor .entry)) (now (sound .entry)) (now (out .entry)))
         × (now (size .exit)
-        ≡ lengthLeaves (now (registers .entry)) (now (video .entry)) (now (cursor .entry)) (now (sound .entry)) (length (now (out .entry))) (now (size .entry)))
+        ≡ cellBy (writeTold (now (registers .entry)) (now (video .entry)) (now (cursor .entry)) (now (sound .entry)) (length (now (out .entry))))
+        (now (size .entry)))
         ⌝ }
 {
-    if size.len() < 1 {
-        return refuse_unmeasured(registers, video, cursor, sound);
-    }
     match plates::write(registers, video, cursor, sound, out) {
         Writing::Refused(why) => refused(why),
         Writing::Bytes(n) => {
-            size[0] = n as u64;
+            *size = n as u64;
             0
         }
     }

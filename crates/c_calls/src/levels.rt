@@ -1,20 +1,32 @@
 // Single values: a pixel's colour, a colour's grey, the sync pin.
+use crate::code::SHORT;
 use crate::record::lacks;
 use crate::record::record_of;
 ghost use mathlib.Core.Path.{_≡_};
 ghost use Rattle.colours.specs.Grey.{greyOf};
 ghost use Rattle.colours.specs.Pin.{pinOf};
+ghost use Rattle.c_calls.specs.Code.{codeOf, cellBy};
 ghost use Rattle.c_calls.specs.Pictures.{colourCall};
 
-// The 13-bit colour of a logical pixel; 0 for slices shorter than 64.
+// The 13-bit colour of a logical pixel; 13 for slices shorter than 64.
 #[no_mangle]
-pub extern "C" fn vom_colour(values: &[u32], written: &[u8], depth: u8, pixel: u8) -> u16
-    ensures { λ r. ⌜ r ≡ colourCall (now (values .entry)) (now (written .entry)) depth pixel ⌝ }
+pub extern "C" fn vom_colour(
+    values: &[u32],
+    written: &[u8],
+    depth: u8,
+    pixel: u8,
+    colour: &mut u16,
+) -> u64
+    ensures { λ r. ⌜
+        (r ≡ codeOf (colourCall (now (values .entry)) (now (written .entry)) depth pixel))
+        × (now (colour .exit) ≡ cellBy (colourCall (now (values .entry)) (now (written .entry)) depth pixel) (now (colour .entry)))
+        ⌝ }
 {
     if lacks(values, written) {
-        return 0;
+        return SHORT;
     }
-    colours::colour(record_of(values, written), depth, pixel)
+    *colour = colours::colour(record_of(values, written), depth, pixel);
+    0
 }
 
 #[no_mangle]

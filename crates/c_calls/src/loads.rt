@@ -1,15 +1,65 @@
-// Register words loaded into a record that C holds.
-use crate::code::SHORT;
+// Register words loaded into a record that C holds: judged by the register library, then each stored in both slices.
 use crate::code::refused;
 use crate::record::lacks;
-use crate::record::put_record;
-use crate::record::record_of;
+use registers::record::Registers;
 use registers::refusal::Answer;
+use registers::refusal::Refusal;
 ghost use mathlib.Core.Path.{_≡_};
+ghost use Prim.Native.Nat.{_≤_};
+ghost use lib.ListN.{length};
+ghost use Rattle.registers.specs.Table.{told};
 ghost use Rattle.c_calls.specs.Code.{codeOf};
+ghost use Rattle.c_calls.specs.Load.{valueStored, flagStored, valuesStored, flagsStored};
 ghost use Rattle.c_calls.specs.Load.{loadCall, loadValues, loadWritten, wordCall, wordValues, wordWritten};
 
-// The words applied to the record, in order; 13 for slices shorter than 64, then 1, 2.
+// Whether a list is accepted does not hang on the record's contents, so a fresh one judges it.
+fn judge_list(values: &[u32], written: &[u8], words: &[u32]) -> Answer
+    ensures { λ r. ⌜ told r ≡ loadCall (now (values .entry)) (now (written .entry)) (now (words .entry)) ⌝ }
+{
+    if lacks(values, written) {
+        return Answer::Refused(Refusal::Short);
+    }
+    let loaded = Registers::new().load(words);
+    loaded.answer
+}
+
+fn judge_word(values: &[u32], written: &[u8], word: u32) -> Answer
+    ensures { λ r. ⌜ told r ≡ wordCall (now (values .entry)) (now (written .entry)) word ⌝ }
+{
+    if lacks(values, written) {
+        return Answer::Refused(Refusal::Short);
+    }
+    let loaded = Registers::new().load_word(word);
+    loaded.answer
+}
+
+fn put_word(values: &mut [u32], written: &mut [u8], word: u32)
+    requires { ⌜ (64 ≤ length (now values)) × (64 ≤ length (now written)) ⌝ }
+    ensures { λ _. ⌜
+        (now (values .exit) ≡ valueStored (now (values .entry)) word)
+        × (now (written .exit) ≡ flagStored (now (written .entry)) word)
+        ⌝ }
+{
+    let slot = (word / 0x400_0000) as usize;
+    values[slot] = word % 0x100_0000;
+    written[slot] = 1;
+}
+
+fn put_list(values: &mut [u32], written: &mut [u8], words: &[u32])
+    requires { ⌜ (64 ≤ length (now values)) × (64 ≤ length (now written)) ⌝ }
+    ensures { λ _. ⌜
+        (now (values .exit) ≡ valuesStored (now (values .entry)) (now (words .entry)))
+        × (now (written .exit) ≡ flagsStored (now (written .entry)) (now (words .entry)))
+        ⌝ }
+{
+    let mut i = 0;
+    while i < words.len() {
+        put_word(values, written, words[i]);
+        i += 1;
+    }
+}
+
+// The words stored in order; 13 for slices shorter than 64, then 1, 2.
 #[no_mangle]
 pub extern "C" fn vom_load(values: &mut [u32], written: &mut [u8], words: &[u32]) -> u64
     ensures { λ r. ⌜
@@ -18,15 +68,10 @@ pub extern "C" fn vom_load(values: &mut [u32], written: &mut [u8], words: &[u32]
         × (now (written .exit) ≡ loadWritten (now (values .entry)) (now (written .entry)) (now (words .entry)))
         ⌝ }
 {
-    if lacks(values, written) {
-        return SHORT;
-    }
-    let loaded = record_of(values, written).load(words);
-    let answer = loaded.answer;
-    match answer {
+    match judge_list(values, written, words) {
         Answer::Refused(why) => refused(why),
         Answer::Done => {
-            put_record(loaded.registers, values, written);
+            put_list(values, written, words);
             0
         }
     }
@@ -41,15 +86,10 @@ pub extern "C" fn vom_load_word(values: &mut [u32], written: &mut [u8], word: u3
         × (now (written .exit) ≡ wordWritten (now (values .entry)) (now (written .entry)) word)
         ⌝ }
 {
-    if lacks(values, written) {
-        return SHORT;
-    }
-    let loaded = record_of(values, written).load_word(word);
-    let answer = loaded.answer;
-    match answer {
+    match judge_word(values, written, word) {
         Answer::Refused(why) => refused(why),
         Answer::Done => {
-            put_record(loaded.registers, values, written);
+            put_word(values, written, word);
             0
         }
     }

@@ -1,7 +1,6 @@
 // Where a raster's words stand, and the mark count.
 use crate::code::SHORT;
 use crate::code::refused;
-use crate::put::put_pair;
 use crate::record::lacks;
 use crate::record::record_of;
 use marks::answer::Marks;
@@ -13,8 +12,8 @@ ghost use mathlib.Core.Path.{_≡_};
 ghost use lib.ListN.{length};
 ghost use Rattle.marks.specs.Marks.{marksSays};
 ghost use Rattle.stretch.specs.Stretch.{foundSays};
-ghost use Rattle.c_calls.specs.Code.{codeOf, storedBy};
-ghost use Rattle.c_calls.specs.Pictures.{foundTold, wordsCall, placeLeaves, countTold, marksCall};
+ghost use Rattle.c_calls.specs.Code.{codeOf, storedBy, cellBy};
+ghost use Rattle.c_calls.specs.Pictures.{foundTold, wordsCall, marksCall};
 
 fn find_words(values: &[u32], written: &[u8], video: &[u32], y: u16) -> Found
     ensures { λ r. ⌜ foundSays r ≡ foundTold (now (values .entry)) (now (written .entry)) (now (video .entry)) y ⌝ }
@@ -25,7 +24,7 @@ fn find_words(values: &[u32], written: &[u8], video: &[u32], y: u16) -> Found
     find(record_of(values, written), video, Rasters(y))
 }
 
-// The first word of raster y and how many there are: 0 and 0 where it is refused or not displayed.
+// The first word of raster y and how many there are: 0 and 0 where it is not displayed.
 // 13 for slices shorter than 64, then 3 to 9, 11 for the video words, 12, then 13 for `place`.
 #[no_mangle]
 pub extern "C" fn vom_raster_words(
@@ -38,19 +37,17 @@ pub extern "C" fn vom_raster_words(
     ensures { λ r. ⌜
         (r ≡ codeOf (wordsCall (now (values .entry)) (now (written .entry)) (now (video .entry)) y (length (now (place .entry)))))
         × (now (place .exit)
-        ≡ placeLeaves (now (values .entry)) (now (written .entry)) (now (video .entry)) y (now (place .entry)))
+        ≡ storedBy (wordsCall (now (values .entry)) (now (written .entry)) (now (video .entry)) y (length (now (place .entry)))) (now (place .entry)))
         ⌝ }
 {
     match find_words(values, written, video, y) {
-        Found::Refused(why) => {
-            put_pair(place, 0, 0);
-            refused(why)
-        }
+        Found::Refused(why) => refused(why),
         Found::At(p) => {
             if place.len() < 2 {
                 return SHORT;
             }
-            put_pair(place, p.start as u64, p.count as u64);
+            place[0] = p.start as u64;
+            place[1] = p.count as u64;
             0
         }
     }
@@ -64,7 +61,7 @@ fn count_marks(
     threshold: u8,
 ) -> Marks
     ensures { λ r. ⌜
-        marksSays r ≡ countTold (now (values .entry)) (now (written .entry)) (now (video .entry)) (now (cursor .entry)) threshold
+        marksSays r ≡ marksCall (now (values .entry)) (now (written .entry)) (now (video .entry)) (now (cursor .entry)) threshold
         ⌝ }
 {
     if lacks(values, written) {
@@ -73,7 +70,7 @@ fn count_marks(
     marks::marks(record_of(values, written), video, cursor, threshold)
 }
 
-// The mark count; 13 for slices shorter than 64, then 3 to 9, 11, then 13 for `count`.
+// The mark count; 13 for slices shorter than 64, then 3 to 9, 11.
 #[no_mangle]
 pub extern "C" fn vom_marks(
     values: &[u32],
@@ -81,21 +78,18 @@ pub extern "C" fn vom_marks(
     video: &[u32],
     cursor: &[u32],
     threshold: u8,
-    count: &mut [u64],
+    count: &mut u64,
 ) -> u64
     ensures { λ r. ⌜
-        (r ≡ codeOf (marksCall (now (values .entry)) (now (written .entry)) (now (video .entry)) (now (cursor .entry)) threshold (length (now (count .entry)))))
+        (r ≡ codeOf (marksCall (now (values .entry)) (now (written .entry)) (now (video .entry)) (now (cursor .entry)) threshold))
         × (now (count .exit)
-        ≡ storedBy (marksCall (now (values .entry)) (now (written .entry)) (now (video .entry)) (now (cursor .entry)) threshold (length (now (count .entry)))) (now (count .entry)))
+        ≡ cellBy (marksCall (now (values .entry)) (now (written .entry)) (now (video .entry)) (now (cursor .entry)) threshold) (now (count .entry)))
         ⌝ }
 {
     match count_marks(values, written, video, cursor, threshold) {
         Marks::Refused(why) => refused(why),
         Marks::Count(n) => {
-            if count.len() < 1 {
-                return SHORT;
-            }
-            count[0] = n as u64;
+            *count = n as u64;
             0
         }
     }

@@ -1,9 +1,9 @@
-// A register record from two slices and back: the first 64 of each count, and a byte that is not 0 means written.
+// A register record from two slices: the first 64 of each count, and a byte that is not 0 means written.
 use registers::record::Registers;
 ghost use mathlib.Core.Path.{_≡_};
 ghost use Prim.Native.Nat.{_≤_};
 ghost use lib.ListN.{length};
-ghost use Rattle.c_calls.specs.Record.{lacking, recordOf, valuesHeld, writtenHeld};
+ghost use Rattle.c_calls.specs.Record.{lacking, recordOf};
 
 // Whether a slice is too short to be half a record.
 pub fn lacks(values: &[u32], written: &[u8]) -> bool
@@ -27,21 +27,5 @@ pub fn record_of(values: &[u32], written: &[u8]) -> Registers
     Registers {
         values: numbers,
         written: flags,
-    }
-}
-
-// The record stored in its slices.
-pub fn put_record(g: Registers, values: &mut [u32], written: &mut [u8])
-    requires { ⌜ (64 ≤ length (now values)) × (64 ≤ length (now written)) ⌝ }
-    ensures { λ _. ⌜
-        (now (values .exit) ≡ valuesHeld g (now (values .entry)))
-        × (now (written .exit) ≡ writtenHeld g (now (written .entry)))
-        ⌝ }
-{
-    let mut k = 0;
-    while k < 64 {
-        values[k] = g.values[k];
-        written[k] = g.written[k] as u8;
-        k += 1;
     }
 }

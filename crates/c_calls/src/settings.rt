@@ -74,8 +74,7 @@ fn judge(values: &[u32], written: &[u8]) -> Checked
     record_of(values, written).check()
 }
 
-// Whether a record can be played.
-pub fn judge_sound(values: &[u32], written: &[u8]) -> Answer
+fn judge_sound(values: &[u32], written: &[u8]) -> Answer
     ensures { λ r. ⌜ told r ≡ checkSoundCall (now (values .entry)) (now (written .entry)) ⌝ }
 {
     if lacks(values, written) {

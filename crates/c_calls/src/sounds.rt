@@ -1,58 +1,45 @@
 // Sound values, and the pair of one byte.
 use crate::code::SHORT;
-use crate::code::answered;
 use crate::code::refused;
 use crate::record::lacks;
 use crate::record::record_of;
-use crate::settings::judge_sound;
 use registers::refusal::Answer;
 use sound::Pairing;
 ghost use mathlib.Core.Path.{_≡_};
 ghost use lib.ListN.{length};
 ghost use Rattle.c_calls.specs.Code.{codeOf, storedBy};
-ghost use Rattle.c_calls.specs.Settings.{checkSoundCall};
-ghost use Rattle.c_calls.specs.Sounds.{soundCall, soundLeaves, counterLeaves, pairCall, unheard};
+ghost use Rattle.c_calls.specs.Sounds.{soundCall, soundLeaves, counterLeaves, pairCall};
 
-// The answer where the counter has no place: 3, 10, else 13.
-fn refuse_unheard(values: &[u32], written: &[u8]) -> u64
-    ensures { λ r. ⌜ r ≡ codeOf (unheard (checkSoundCall (now (values .entry)) (now (written .entry)))) ⌝ }
-{
-    match judge_sound(values, written) {
-        Answer::Refused(why) => refused(why),
-        Answer::Done => SHORT,
-    }
-}
-
-// 8 values for each word, and the counter after the last byte, or as it came where the call is refused.
-// 13 for slices shorter than 64, then 3, 10, 13 for `out`, 13 for `after`.
+// 8 values for each word. The cell holds the counter before the first byte, and afterwards that after the last.
+// 13 for slices shorter than 64, then 3, 10, 13 for `out`.
 #[no_mangle]
 pub extern "C" fn vom_sound(
     values: &[u32],
     written: &[u8],
     words: &[u32],
-    counter: u32,
+    counter: &mut u32,
     out: &mut [i16],
-    after: &mut [u32],
 ) -> u64
     ensures { λ r. ⌜
-        (r ≡ codeOf (soundCall (now (values .entry)) (now (written .entry)) (length (now (words .entry))) (length (now (out .entry))) (length (now (after .entry)))))
+        (r ≡ codeOf (soundCall (now (values .entry)) (now (written .entry)) (length (now (words .entry))) (length (now (out .entry)))))
+        × (now (counter .exit)
+        ≡ counterLeaves (now (values .entry)) (now (written .entry)) (now (words .entry)) (length (now (out .entry))) (now (counter .entry)))
         × (now (out .exit)
-        ≡ soundLeaves (now (values .entry)) (now (written .entry)) (now (words .entry)) counter (now (out .entry)) (length (now (after .entry))))
-        × (now (after .exit)
-        ≡ counterLeaves (now (values .entry)) (now (written .entry)) (now (words .entry)) counter (length (now (out .entry))) (now (after .entry)))
+        ≡ soundLeaves (now (values .entry)) (now (written .entry)) (now (words .entry)) (now (counter .entry)) (now (out .entry)))
         ⌝ }
 {
-    if after.len() < 1 {
-        return refuse_unheard(values, written);
-    }
     if lacks(values, written) {
-        after[0] = counter;
         return SHORT;
     }
-    let played = sound::play(record_of(values, written), words, counter, out);
-    after[0] = played.counter;
+    let played = sound::play(record_of(values, written), words, *counter, out);
     let answer = played.answer;
-    answered(answer)
+    match answer {
+        Answer::Refused(why) => refused(why),
+        Answer::Done => {
+            *counter = played.counter;
+            0
+        }
+    }
 }
 
 // One byte's left and right value in sixths; 10 for a stereo value 0 modulo 8, then 13 for `pair`.

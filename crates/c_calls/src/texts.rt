@@ -7,8 +7,8 @@ ghost use Prim.Native.Nat.{_≤_};
 ghost use lib.ListN.{length};
 ghost use lib.Seq.{sets};
 ghost use Rattle.runs.specs.Text.{textOf};
-ghost use Rattle.c_calls.specs.Code.{codeOf};
-ghost use Rattle.c_calls.specs.Texts.{textCall, textLeaves, textLength};
+ghost use Rattle.c_calls.specs.Code.{codeOf, cellBy};
+ghost use Rattle.c_calls.specs.Texts.{textCall, textLeaves};
 
 // The head, and a line for each of 1,024 rasters at most.
 const MOST_LINES: usize = 1025;
@@ -47,20 +47,20 @@ fn put_text(file: &[u8], out: &mut [u8])
     }
 }
 
-// The text of a plate file, refused or not, and its length; 13 for `text` or for `size`, and then nothing is written.
+// The text of a plate file, refused or not, and its length; 13 for `text`.
 #[no_mangle]
-pub extern "C" fn vom_text(file: &[u8], text: &mut [u8], size: &mut [u64]) -> u64
+pub extern "C" fn vom_text(file: &[u8], text: &mut [u8], size: &mut u64) -> u64
     ensures { λ r. ⌜
-        (r ≡ codeOf (textCall (now (file .entry)) (length (now (text .entry))) (length (now (size .entry)))))
-        × (now (text .exit) ≡ textLeaves (now (file .entry)) (now (text .entry)) (length (now (size .entry))))
-        × (now (size .exit) ≡ textLength (now (file .entry)) (length (now (text .entry))) (now (size .entry)))
+        (r ≡ codeOf (textCall (now (file .entry)) (length (now (text .entry)))))
+        × (now (text .exit) ≡ textLeaves (now (file .entry)) (now (text .entry)))
+        × (now (size .exit) ≡ cellBy (textCall (now (file .entry)) (length (now (text .entry)))) (now (size .entry)))
         ⌝ }
 {
     let n = measure(file);
-    if (size.len() < 1) | (text.len() < n) {
+    if text.len() < n {
         return SHORT;
     }
     put_text(file, text);
-    size[0] = n as u64;
+    *size = n as u64;
     0
 }

@@ -1,6 +1,10 @@
 -- Answers coincide: for every public call of every library, the theorem of its own contract, in one list.
--- Of `raster_words` it says that any two answers read the same words.
-pub use Rattle.registers.proofs.Unique.{one-number, one-detail, one-pixels, one-width-from, one-height-from, one-of-value, one-is-reserved, one-addresses, one-new, one-store, one-palette, one-border, one-cursor-colour, one-display-on, one-border-on, one-video-words, one-cursor-words, one-control, one-pixel-rate, one-entries-in-use, one-sub-position, one-cursor-on, one-setting, one-stereo, one-sound-frequency, one-load-word, one-load, one-check, one-check-sound}
+-- Of `raster_words` it says that any two answers read the same words at the same place.
+pub use Rattle.registers.proofs.Unique.{one-number, one-detail, one-pixels, one-width-from, one-height-from, one-of-value, one-is-reserved}
+pub use Rattle.registers.proofs.Unique.{one-addresses, one-new, one-store, one-palette, one-border, one-cursor-colour, one-display-on, one-border-on}
+pub use Rattle.registers.proofs.Unique.{one-video-words, one-cursor-words, one-pixel-rate, one-control, one-entries-in-use, one-sub-position}
+pub use Rattle.registers.proofs.Unique.{one-cursor-on, one-setting, one-stereo, one-sound-frequency, one-load-word, one-load, one-check}
+pub use Rattle.registers.proofs.Unique.{one-check-sound}
 pub use Rattle.colours.proofs.Unique.{one-shown, one-colour, one-entries, one-grey, one-pin}
 pub use Rattle.frame.proofs.Unique.{one-words-wrong, one-frame, one-raster}
 pub use Rattle.marks.proofs.Unique.{one-marks}
@@ -10,4 +14,6 @@ pub use Rattle.plates.proofs.Unique.{one-read, one-copy-out, one-write}
 pub use Rattle.pictures.proofs.Unique.{one-guns}
 pub use Rattle.waves.proofs.Unique.{one-head, one-samples}
 pub use Rattle.runs.proofs.Unique.{one-line, one-strip, one-block, one-refusal}
-pub use Rattle.c_calls.proofs.Unique.{one-judge-sound, one-vom-read, one-vom-copy, one-vom-write, one-vom-colour, one-vom-grey, one-vom-pin, one-vom-load, one-vom-load-word, one-vom-frame, one-vom-raster, one-vom-raster-words, one-vom-marks, one-vom-check, one-vom-check-sound, one-vom-sound, one-vom-sound-pair, one-vom-text}
+pub use Rattle.c_calls.proofs.Unique.{one-vom-read, one-vom-copy, one-vom-write, one-vom-colour, one-vom-grey, one-vom-pin, one-vom-load}
+pub use Rattle.c_calls.proofs.Unique.{one-vom-load-word, one-vom-frame, one-vom-raster, one-vom-raster-words, one-vom-marks, one-vom-check}
+pub use Rattle.c_calls.proofs.Unique.{one-vom-check-sound, one-vom-sound, one-vom-sound-pair, one-vom-text}

@@ -1,54 +1,44 @@
 -- Demand 2, as the user says it: a setting is accepted exactly when every rule holds; each cell, mark count and sound value is
 -- then the rule's; plates read back, and are written again the same.
-use Prim.Native.Nat.{ℕ, _<_, _≤_}
-use mathlib.Core.Path.{_≡_, sym, _∙_, ap}
+use Prim.Native.Nat.{ℕ, _+_, _*_, _%_, _^_, _≤_}
+use mathlib.Core.Path.{_≡_, refl, sym, _∙_, ap}
 use mathlib.Core.List.{List}
 use mathlib.Core.Logic.{_↔_}
 use native.Mathlib.Omega.{arith}
-use lib.ListN.{length, getD}
+use lib.ListN.{length, getD, take}
+use lib.Seq.{sets}
 use borrow.Author.Tests.{eq-eqb, ltb-false}
-use denote.Ref.{now}
 use Rattle.buffers.specs.Painted.{painted}
 use Rattle.buffers.proofs.Paints.{Paints, paints-of}
-use Rattle.registers.specs.Table.{Told, given, told, unlessRefused}
+use Rattle.buffers.proofs.Words.{Below}
+use Rattle.registers.specs.Table.{Told, given, unlessRefused}
 use Rattle.registers.specs.Setting.{settingOf, videoWords, cursorWords}
-use Rattle.registers.specs.Check.{checkSays}
 use Rattle.registers.specs.Rules.{EveryRule}
 use Rattle.registers.specs.declared.record.Registers.{Registers}
 use Rattle.registers.proofs.Exactly.{exactly}
-use Rattle.registers.proofs.record.Registers.check.Kinds as check-kinds
-use Rattle.registers.proofs.record.Registers.check.Reads as check-reads
-use Rattle.frame.specs.Cell.{cell}
 use Rattle.frame.specs.Frame.{cells, frameCell, rasterCell, rasterTold, rasterHeld}
-use Rattle.frame.proofs.raster.Kinds as raster-kinds
-use Rattle.frame.proofs.raster.Reads as raster-reads
 use Rattle.marks.specs.Count.{bit, countBelow}
-use Rattle.marks.specs.Marks.{isMark, marksOf, marksTold, marksSays}
+use Rattle.marks.specs.Marks.{isMark, marksOf, marksTold}
 use Rattle.marks.proofs.Totals.{total-as}
-use Rattle.marks.proofs.marks.Kinds as marks-kinds
-use Rattle.marks.proofs.marks.Reads as marks-reads
-use Rattle.claims.specs.Run.{FrameRun, Right}
-use Rattle.claims.specs.Calls.{Always}
-use Rattle.claims.proofs.Runs.{Framed, framed}
+use Rattle.sound.proofs.Places.{EveryPlace, every-place}
+use Rattle.plates.specs.Plate.{mostBytes, plateLength}
+use Rattle.plates.specs.declared.Sections.{Sections}
+use Rattle.plates.proofs.RoundTrip as round-trip
+use Rattle.claims.specs.Calls.{Every}
+use Rattle.claims.specs.Views as call
+use Rattle.claims.specs.Views.{RasterRun, MarksRun}
+use Rattle.claims.specs.Framed.{On, Right, Framed, Rastered}
+use Rattle.claims.specs.RoundTrip.{ReadsBack, Cut}
+use Rattle.claims.proofs.Runs.{framed}
 use Rattle.claims.proofs.Refusals.{raster-refuses}
--- Each cell of the frame: `framed`, of every run of the frame call that is asked rightly.
-pub use Rattle.claims.proofs.Runs.{framed, frame-answers}
--- Each sound value, at every place of lent memory, and the counter afterwards.
-pub use Rattle.sound.proofs.Places.{every-place, pair-within}
--- The words of a raster are that stretch of the caller's list, and hold the frame's pixels.
-pub use Rattle.stretch.proofs.Pixels.{stretch-pixel}
--- Plates.
-pub use Rattle.plates.proofs.RoundTrip.{read-back-as-written, written-again-the-same}
+-- Each cell of the frame, of every run that is asked rightly; and such a run exists.
+pub use Rattle.claims.proofs.Runs.{each-cell, right-runs, of-run}
+-- One byte's pair.
+pub use Rattle.sound.proofs.Places.{pair-within}
 
 -- Accepted exactly when every rule holds.
-pub accepted-exactly : Always 0 check-kinds.ps check-kinds.r (λ κs a x s. (checkSays x ≡ given (settingOf (a .0))) ↔ EveryRule (a .0)) check-reads.Post
-accepted-exactly κs a x s p = (λ e. exactly (a .0) .0 (sym p ∙ e), λ h. p ∙ exactly (a .0) .1 h)
-
--- What lent memory holds after a raster call that is not refused.
-pub record Rastered (g : Registers) (video cursor : List ℕ) (y : ℕ) (before after : List ℕ) : Type 0 where
-  pub long : length after ≡ length before
-  pub each : (x : ℕ) → x < settingOf g .n .0 → getD after x 0 ≡ cell g (settingOf g) video cursor x y
-  pub beyond : (x : ℕ) → settingOf g .n .0 ≤ x → getD after x 0 ≡ getD before x 0
+pub accepted-exactly : Every call.check λ run. (run .answer ≡ given (settingOf (run .registers))) ↔ EveryRule (run .registers)
+accepted-exactly κs a x s p = let g = call.check .seen κs a x s .registers in (λ e. exactly g .0 (sym p ∙ e), λ h. p ∙ exactly g .1 h)
 
 raster-held : (g : Registers) (video cursor : List ℕ) (y : ℕ) (before after : List ℕ) → settingOf g .n .0 ≤ length before
     → rasterTold g video cursor y (length before) ≡ given tt → after ≡ rasterHeld g video cursor y before → Rastered g video cursor y before after
@@ -59,13 +49,14 @@ raster-held g video cursor y before after room t e =
     let p : Paints 0 before after 0 (settingOf g .n .0) (rasterCell g (settingOf g) video cursor y) = paints-of room drawn in
     record { long = p .len; each = λ x h. p .on x (omega arith) h; beyond = p .high }
 
-pub each-raster-cell : Always 3 raster-kinds.ps raster-kinds.r
-    (λ κs a x s. told x ≡ given tt
-    → Rastered (a .0) (now (a .1 .0)) (now (a .1 .1 .0)) (a .1 .1 .1 .0 .0) (now (a .1 .1 .1 .1 .0)) (now (s .1 .1 .1 .1 .0))) raster-reads.Post
+-- Each cell of one raster.
+pub each-raster-cell : Every call.raster λ run. run .answer ≡ given tt
+    → Rastered (run .registers) (run .video) (run .cursor) (run .raster) (run .before) (run .after)
 each-raster-cell κs a x s p e =
+    let run : RasterRun = call.raster .seen κs a x s in
     let rows = raster-refuses κs a x s p .0 .given-when .0 e in
-    raster-held (a .0) (now (a .1 .0)) (now (a .1 .1 .0)) (a .1 .1 .1 .0 .0) (now (a .1 .1 .1 .1 .0)) (now (s .1 .1 .1 .1 .0))
-    (ltb-false (length (now (a .1 .1 .1 .1 .0))) (settingOf (a .0) .n .0) (rows .1 .1 .1 .1 .1 .1 .1 .1 .1 .0)) (sym (p .0) ∙ e) (p .1)
+    raster-held (run .registers) (run .video) (run .cursor) (run .raster) (run .before) (run .after)
+    (ltb-false (length (run .before)) (settingOf (run .registers) .n .0) (rows .1 .1 .1 .1 .1 .1 .1 .1 .1 .0)) (sym (p .0) ∙ e) (p .1)
 
 -- The mark count is that of the frame: the cells of code 5 that a run of the frame call left, with grey at or above the threshold.
 marks-in : (g : Registers) (video cursor : List ℕ) (threshold : ℕ) {before after : List ℕ} → Framed g video cursor before after
@@ -85,10 +76,38 @@ marks-given g video cursor threshold r =
       eq-eqb (length cursor) (cursorWords (settingOf g)) (r .cursor-words),
     )
 
-pub marks-of-the-frame : Always 2 marks-kinds.ps marks-kinds.r
-    (λ κs a x s. (before after : List ℕ)
-    → FrameRun (a .0) (now (a .1 .0)) (now (a .1 .1 .0)) before after → Right (a .0) (now (a .1 .0)) (now (a .1 .1 .0)) before
-    → marksSays x ≡ given (countBelow (λ k. isMark (a .1 .1 .1 .0) (getD after k 0)) (cells (settingOf (a .0))))) marks-reads.Post
-marks-of-the-frame κs a x s p before after run r =
-    p ∙ marks-given (a .0) (now (a .1 .0)) (now (a .1 .1 .0)) (a .1 .1 .1 .0) r
-    ∙ ap given (marks-in (a .0) (now (a .1 .0)) (now (a .1 .1 .0)) (a .1 .1 .1 .0) (framed run r))
+pub marks-of-the-frame : Every call.marks λ count. Every call.frame λ run.
+    On (count .registers) (count .video) (count .cursor) run → Right (count .registers) (count .video) (count .cursor) (run .before)
+    → count .answer ≡ given (countBelow (λ k. isMark (count .threshold) (getD (run .after) k 0)) (cells (settingOf (count .registers))))
+marks-of-the-frame κs a x s p κs′ a′ x′ s′ p′ on r =
+    let count : MarksRun = call.marks .seen κs a x s in
+    p ∙ marks-given (count .registers) (count .video) (count .cursor) (count .threshold) r
+    ∙ ap given (marks-in (count .registers) (count .video) (count .cursor) (count .threshold) (framed κs′ a′ x′ s′ p′ on r))
+
+-- Each sound value, at every place of lent memory, and the counter afterwards.
+pub each-sound-value : Every call.play λ run. run .answer ≡ given tt
+    → (run .counted ≡ (run .counter + 4 * length (run .words)) % 2 ^ 32)
+    × EveryPlace (run .registers) (run .words) (run .counter) (run .before) (run .after)
+each-sound-value = every-place
+
+-- Four lists whose plate fits are written, and what is written reads back as those lists.
+pub read-back-as-written : Every call.write λ run.
+    Below (2 ^ 32) (run .registers) → Below (2 ^ 32) (run .video) → Below (2 ^ 32) (run .cursor) → Below (2 ^ 32) (run .sound)
+    → plateLength (run .registers) (run .video) (run .cursor) (run .sound) ≤ mostBytes
+    → plateLength (run .registers) (run .video) (run .cursor) (run .sound) ≤ length (run .before)
+    → (run .answer ≡ given (plateLength (run .registers) (run .video) (run .cursor) (run .sound)))
+    × ReadsBack (take (plateLength (run .registers) (run .video) (run .cursor) (run .sound)) (run .after))
+    (run .registers) (run .video) (run .cursor) (run .sound)
+read-back-as-written κs a x s p br bv bc bs fits room =
+    let (written, back) = round-trip.read-back-as-written κs a x s p br bv bc bs fits room in
+    (written, record { reading = back .reading; copying = back .copying })
+
+-- An accepted file, its words copied out, cut at its own section starts and written, gives the same bytes.
+pub written-again-the-same : Every call.read λ reading. Every call.copyOut λ copy. Every call.write λ again. (sections : Sections)
+    → Below 256 (reading .file) → reading .answer ≡ given sections
+    → copy .file ≡ reading .file → sections .r ≤ length (copy .before)
+    → Cut sections copy again → length (reading .file) ≤ length (again .before)
+    → (again .answer ≡ given (length (reading .file))) × (again .after ≡ sets (again .before) 0 (reading .file))
+written-again-the-same κr b y t pr κc d z u pc κw a x s pw sections small accepted same room cut fits =
+    round-trip.written-again-the-same κr b y t κc d z u κw a x s (call.read .seen κr b y t .file) sections small pr refl accepted pc same room pw
+    (cut .registers) (cut .video) (cut .cursor) (cut .sound) fits

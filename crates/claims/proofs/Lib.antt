@@ -6,9 +6,14 @@ pub mod Lists
 pub mod Picture
 pub mod Either
 pub mod Tables
+pub mod Judged
 pub mod Refusals
+pub mod Words
+pub mod CCodes
+pub mod CRefusals
 pub mod Dark
 pub mod Demands
 pub mod Printed
 pub mod Cases
+pub mod SmallText
 pub mod Coincide

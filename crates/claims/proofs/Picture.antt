@@ -25,11 +25,13 @@ use Rattle.frame.proofs.CellCodes.{Displayed, displayed}
 use Rattle.frame.proofs.PixelPlaces.{pixel-below}
 use Rattle.claims.specs.Shown.{Distinct, Alike, uncovered, SamePixels, frameIn}
 use Rattle.claims.specs.Exhibited.{onePixel}
-use Rattle.claims.specs.Run.{FrameRun, Right}
+use Rattle.claims.specs.Calls.{Every}
+use Rattle.claims.specs.Views as call
+use Rattle.claims.specs.Framed.{On, Right, Framed}
 use Rattle.claims.proofs.Bits.{by-cases}
 use Rattle.claims.proofs.ColoursTold.{colour-tells, alike-colour}
 use Rattle.claims.proofs.Cells.{same-cell, told-colour}
-use Rattle.claims.proofs.Runs.{Framed, framed}
+use Rattle.claims.proofs.Runs.{framed}
 use Rattle.claims.proofs.Lists.{one-size, one-words, one-here, one-other}
 
 uncovered-displayed : (s : Setting) (cursor : List ℕ) (x y : ℕ) → uncovered s cursor x y ≡ true → Displayed s x y
@@ -110,12 +112,12 @@ module _ {g : Registers} {cursor video other before after before′ after′ : L
 
 -- Where any two different entries in use differ in a shown bit: two runs of the frame call leave the same frame exactly when
 -- their video lists give the same logical pixel at every display position that the cursor leaves uncovered.
-pub frame-tells-pixels : {g : Registers} {cursor video other before after before′ after′ : List ℕ}
-    → FrameRun g video cursor before after → FrameRun g other cursor before′ after′
-    → Right g video cursor before → Right g other cursor before′
-    → Distinct g
-    → (frameIn (settingOf g) after ≡ frameIn (settingOf g) after′) ↔ SamePixels (settingOf g) cursor video other
-frame-tells-pixels run run′ r r′ distinct = tells (r .accepted) (r .room) (r′ .room) (framed run r) (framed run′ r′) distinct
+pub frame-tells-pixels : {g : Registers} {cursor video other : List ℕ} → Distinct g
+    → Every call.frame λ run. Every call.frame λ run′. On g video cursor run → On g other cursor run′
+    → Right g video cursor (run .before) → Right g other cursor (run′ .before)
+    → (frameIn (settingOf g) (run .after) ≡ frameIn (settingOf g) (run′ .after)) ↔ SamePixels (settingOf g) cursor video other
+frame-tells-pixels distinct κs a x s p κs′ a′ x′ s′ p′ on on′ r r′ =
+    tells (r .accepted) (r .room) (r′ .room) (framed κs a x s p on r) (framed κs′ a′ x′ s′ p′ on′ r′) distinct
 
 -- Pixels of the exhibited lists have the same colour at every position.
 like-colours : (g : Registers) (i j x y : ℕ) (a : Accepted (settingOf g)) → Displayed (settingOf g) x y → Alike g i j → (v w : ℕ)
@@ -148,10 +150,9 @@ pub record Confused (g : Registers) (cursor video other : List ℕ) : Type 0 whe
   pub other-size : length other ≡ videoWords (settingOf g)
   pub video-words : Below (2 ^ 32) video
   pub other-words : Below (2 ^ 32) other
-  pub one-frame : {before after before′ after′ : List ℕ}
-      → FrameRun g video cursor before after → FrameRun g other cursor before′ after′
-      → cells (settingOf g) ≤ length before → cells (settingOf g) ≤ length before′
-      → frameIn (settingOf g) after ≡ frameIn (settingOf g) after′
+  pub one-frame : Every call.frame λ run. Every call.frame λ run′. On g video cursor run → On g other cursor run′
+      → cells (settingOf g) ≤ length (run .before) → cells (settingOf g) ≤ length (run′ .before)
+      → frameIn (settingOf g) (run .after) ≡ frameIn (settingOf g) (run′ .after)
 
 -- Where two entries in use agree in all shown bits and a display position is uncovered, the exhibited lists are such.
 pub frame-confuses : (g : Registers) (cursor : List ℕ) (i j x y : ℕ)
@@ -173,9 +174,9 @@ frame-confuses g cursor i j x y good size alike u =
       other-size = size-j;
       video-words = one-words own a x y here i (like .1);
       other-words = one-words own a x y here j (like .2);
-      one-frame = λ run run′ room room′.
+      one-frame = λ κs b r s p κs′ b′ r′ s′ p′ on on′ room room′.
           same-frame good room room′
-          (framed run (record { accepted = good; video-words = size-i; cursor-words = size; room = room }))
-          (framed run′ (record { accepted = good; video-words = size-j; cursor-words = size; room = room′ }))
+          (framed κs b r s p on (record { accepted = good; video-words = size-i; cursor-words = size; room = room }))
+          (framed κs′ b′ r′ s′ p′ on′ (record { accepted = good; video-words = size-j; cursor-words = size; room = room′ }))
           (λ v w t. like-colours g i j x y a here alike v w);
     }

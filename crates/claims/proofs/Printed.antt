@@ -1,12 +1,15 @@
--- Demand 1 for a plate that is printed or played: its refusals, in the order 15, 14, 1 to 9, 11 or 15, 14, 1, 2, 3, 10, and the line that says one.
-use Prim.Native.Nat.{ℕ, _+_}
+-- Demand 1 for a plate that is printed or played: its refusals, in the order 15, 14, 1 to 9, 11 or 15, 14, 1, 2, 3, 10, and what is written of it then.
+use Prim.Native.Nat.{ℕ}
 use mathlib.Core.Path.{_≡_, refl, _∙_, ap}
 use mathlib.Core.List.{List, [], _∷_, _++_}
+use native.Mathlib.Omega.{arith}
 use lib.ListN.{length}
-use lib.Dec.{ltb}
+use lib.Dec.{ltb, eqb}
 use lib.Seq.{sets}
-use denote.Ref.{now}
-use Rattle.registers.specs.Table.{Told, Row, row, judged, andThen, First}
+use borrow.Author.Tests.{eq-eqb, ne-eqb}
+use Rattle.buffers.specs.Pick.{pick}
+use Rattle.buffers.specs.Put.{Put}
+use Rattle.registers.specs.Table.{Told, given, refused, Row, row, judged, andThen, First}
 use Rattle.registers.specs.Load.{loadTable, loadTold}
 use Rattle.registers.specs.Setting.{settingOf}
 use Rattle.registers.specs.Check.{settingTable, checkTold}
@@ -15,21 +18,17 @@ use Rattle.registers.specs.declared.record.Registers.{Registers}
 use Rattle.frame.specs.Frame.{wordsWrong}
 use Rattle.plates.specs.Plate.{sectionsOf}
 use Rattle.plates.specs.Read.{readTold}
-use Rattle.runs.specs.Sheet.{mostInput, registerWords, videoList, cursorList, registersOf, takenTold, pictureTold, sheetTold}
-use Rattle.runs.specs.Text.{refusedLine, lineFor, lineAt}
-use Rattle.runs.specs.Strip.{stripFor, stripAt}
-use Rattle.runs.specs.Wave.{waveTold, refusalFor, waveRefusal, blockFor, blockAt}
-use Rattle.runs.proofs.blocks.block.Kinds as block-kinds
-use Rattle.runs.proofs.blocks.block.Reads as block-reads
-use Rattle.runs.proofs.blocks.refusal.Kinds as refusal-kinds
-use Rattle.runs.proofs.blocks.refusal.Reads as refusal-reads
-use Rattle.runs.proofs.text.line.Kinds as line-kinds
-use Rattle.runs.proofs.text.line.Reads as line-reads
-use Rattle.runs.proofs.strips.strip.Kinds as strip-kinds
-use Rattle.runs.proofs.strips.strip.Reads as strip-reads
-use Rattle.claims.specs.Calls.{Always, numbers, ByTable}
+use Rattle.runs.specs.Sheet.{mostInput, registerWords, videoList, cursorList, soundList, registersOf, takenTold, pictureTold, sheetTold}
+use Rattle.runs.specs.Text.{refusedLine, pictureLine, lineFor, lineAt, firstLines, textOf}
+use Rattle.runs.specs.Strip.{pictureStrip, stripFor, stripAt, firstStrips, pictureOf}
+use Rattle.runs.specs.Wave.{waveTold, waveOf, refusalFor, waveRefusal, waveBlock, blockFor, blockAt}
+use Rattle.claims.specs.Calls.{Every, numbers, ByTable}
+use Rattle.claims.specs.Views as call
+use Rattle.claims.specs.Views.{PieceRun}
+use Rattle.claims.specs.Pieces.{Stored, StoredBy}
 use Rattle.claims.specs.Rows.{marksRows, readRows, takenRows, sheetRows, waveRows}
 use Rattle.claims.proofs.Tables.{by-table, and-then-judged}
+use Rattle.claims.proofs.Judged.{load-told, sound-told, read-told}
 
 pub wave-numbers : (file : List ℕ) → numbers (waveRows file) ≡ 15 ∷ 14 ∷ 1 ∷ 2 ∷ 3 ∷ 10 ∷ []
 wave-numbers file = refl
@@ -47,25 +46,13 @@ before : {A B : Type 0} (t : Told A) (u : Told B) (a : A) (b : B) (rows more : L
 before t u a b rows more e h =
     ap (λ v. andThen v (λ _. u)) e ∙ ap (λ v. andThen (judged rows a) (λ _. v)) h ∙ and-then-judged a rows (λ _. more) (λ _. b)
 
-loaded-told : (words : List ℕ) → loadTold words ≡ judged (loadTable words) tt
-unfolding loadTold
-loaded-told words = refl
-
-reading-told : (file : List ℕ) → readTold file ≡ judged (readRows file) (sectionsOf file)
-unfolding readTold
-reading-told file = refl
-
-sounding-told : (g : Registers) → soundTold g ≡ judged (soundTable g) tt
-unfolding soundTold
-sounding-told g = refl
-
 taken-told : (file : List ℕ) → takenTold file ≡ judged (takenRows file) tt
 unfolding takenTold
 taken-told file =
     before (judged (row 15 (ltb mostInput (length file)) 0 ∷ []) (length file)) (andThen (readTold file) (λ _. loadTold (registerWords file)))
     (length file) tt (row 15 (ltb mostInput (length file)) 0 ∷ []) (readRows file ++ loadTable (registerWords file)) refl
-    (before (readTold file) (loadTold (registerWords file)) (sectionsOf file) tt (readRows file) (loadTable (registerWords file)) (reading-told file)
-    (loaded-told (registerWords file)))
+    (before (readTold file) (loadTold (registerWords file)) (sectionsOf file) tt (readRows file) (loadTable (registerWords file)) (read-told file)
+    (load-told (registerWords file)))
 
 -- A plate is given its setting, or refused, by the printer's table.
 pub sheet-table : (file : List ℕ) → ByTable (sheetTold file) (sheetRows file) (settingOf (registersOf file))
@@ -82,34 +69,64 @@ unfolding waveTold
 wave-table file =
     by-table _ (waveRows file)
     (before (takenTold file) (soundTold (registersOf file)) tt tt (takenRows file) (soundTable (registersOf file)) (taken-told file)
-    (sounding-told (registersOf file)))
+    (sound-told (registersOf file)))
 
--- A refused plate's line 0 is `refused`, the number and the detail; it has no other line and no strip.
-pub line-refuses : Always 2 line-kinds.ps line-kinds.r
-    (λ κs a x s. (n d : ℕ) → First (sheetRows (now (a .0))) n d → a .1 .0 ≡ 0
-    → now (s .1 .1 .0) ≡ sets (now (a .1 .1 .0)) 0 (refusedLine n d)) line-reads.Post
+-- A piece that goes by what a table tells.
+piece : {A : Type 0} (run : PieceRun) {t : Told A} (text : Told A → List ℕ) {rows : List Row} {a : A} → ByTable t rows a
+    → Put (run .before) (run .after) 0 (text t) (run .bytes) → StoredBy run rows (text (given a)) (λ n d. text (refused n d))
+piece {A} run {t} text b p = record { given = λ q. stored (b .given-when .1 q); refused = λ n d f. stored (b .refused-when n d .1 f) }
+  where
+    stored : {u : Told A} → t ≡ u → Stored run (text u)
+    stored e = (p .stored ∙ ap (λ u. sets (run .before) 0 (text u)) e, omega (arith, p .after, ap (λ u. length (text u)) e))
+
+-- A line of the text: the picture's, or the line that refuses it, which is the only one.
+pub line-stored : Every call.line λ run.
+    StoredBy run (sheetRows (run .file))
+    (pictureLine (registersOf (run .file)) (settingOf (registersOf (run .file))) (videoList (run .file)) (cursorList (run .file)) (run .index))
+    (λ n d. pick (eqb (run .index) 0) (refusedLine n d) [])
 unfolding lineAt
-line-refuses κs a x s p n d f e =
-    p .stored
-    ∙ ap (sets (now (a .1 .1 .0)) 0)
-    (ap (λ (k : ℕ). lineFor (now (a .0)) k (sheetTold (now (a .0)))) e
-    ∙ ap (lineFor (now (a .0)) 0) (sheet-table (now (a .0)) .refused-when n d .1 f))
+line-stored κs a x s p =
+    let run : PieceRun = call.line .seen κs a x s in
+    piece run (lineFor (run .file) (run .index)) (sheet-table (run .file)) p
 
-pub strip-refuses : Always 2 strip-kinds.ps strip-kinds.r
-    (λ κs a x s. (n d : ℕ) → First (sheetRows (now (a .0))) n d → (x ≡ 0) × (now (s .1 .1 .0) ≡ now (a .1 .1 .0))) strip-reads.Post
+pub line-refuses : Every call.line λ run. (n d : ℕ) → First (sheetRows (run .file)) n d → run .index ≡ 0 → Stored run (refusedLine n d)
+line-refuses κs a x s p n d f e = rw (eq-eqb (call.line .seen κs a x s .index) 0 e) at (line-stored κs a x s p .refused n d f)
+
+pub no-other-line : Every call.line λ run. (n d : ℕ) → First (sheetRows (run .file)) n d → (run .index ≡ 0 → ⊥) → Stored run []
+no-other-line κs a x s p n d f h = rw (ne-eqb (call.line .seen κs a x s .index) 0 h) at (line-stored κs a x s p .refused n d f)
+
+pub text-refused : (file : List ℕ) (n d : ℕ) → First (sheetRows file) n d → textOf file ≡ refusedLine n d
+unfolding textOf firstLines lineAt
+text-refused file n d f = let e = sheet-table file .refused-when n d .1 f in rw e (ap (lineFor file 0) e)
+
+-- A strip of the picture; a refused plate has none.
+pub strip-stored : Every call.strip λ run.
+    StoredBy run (sheetRows (run .file))
+    (pictureStrip (registersOf (run .file)) (settingOf (registersOf (run .file))) (videoList (run .file)) (cursorList (run .file)) (run .index))
+    (λ n d. [])
 unfolding stripAt
-strip-refuses κs a x s p n d f =
-    let none : stripFor (now (a .0)) (a .1 .0) (sheetTold (now (a .0))) ≡ [] =
-    ap (stripFor (now (a .0)) (a .1 .0)) (sheet-table (now (a .0)) .refused-when n d .1 f) in
-    (p .after ∙ ap (λ (l : List ℕ). 0 + length l) none, p .stored ∙ ap (sets (now (a .1 .1 .0)) 0) none)
+strip-stored κs a x s p =
+    let run : PieceRun = call.strip .seen κs a x s in
+    piece run (stripFor (run .file) (run .index)) (sheet-table (run .file)) p
 
--- A plate whose sound is refused: the line that says so, and no block.
-pub wave-refuses : Always 2 refusal-kinds.ps refusal-kinds.r
-    (λ κs a x s. (n d : ℕ) → First (waveRows (now (a .0))) n d → now (s .1 .0) ≡ sets (now (a .1 .0)) 0 (refusedLine n d)) refusal-reads.Post
-unfolding waveRefusal
-wave-refuses κs a x s p n d f = p .stored ∙ ap (λ t. sets (now (a .1 .0)) 0 (refusalFor t)) (wave-table (now (a .0)) .refused-when n d .1 f)
+pub picture-refused : (file : List ℕ) (n d : ℕ) → First (sheetRows file) n d → pictureOf file ≡ []
+unfolding pictureOf firstStrips
+picture-refused file n d f = rw (sheet-table file .refused-when n d .1 f)
 
-pub block-refuses : Always 2 block-kinds.ps block-kinds.r
-    (λ κs a x s. (n d : ℕ) → First (waveRows (now (a .0))) n d → now (s .1 .1 .0) ≡ now (a .1 .1 .0)) block-reads.Post
+-- A block of the sound; a plate whose sound is refused has none, and a line that says so.
+pub block-stored : Every call.block λ run.
+    StoredBy run (waveRows (run .file)) (waveBlock (registersOf (run .file)) (soundList (run .file)) (run .index)) (λ n d. [])
 unfolding blockAt
-block-refuses κs a x s p n d f = p .stored ∙ ap (λ t. sets (now (a .1 .1 .0)) 0 (blockFor (now (a .0)) (a .1 .0) t)) (wave-table (now (a .0)) .refused-when n d .1 f)
+block-stored κs a x s p =
+    let run : PieceRun = call.block .seen κs a x s in
+    piece run (blockFor (run .file) (run .index)) (wave-table (run .file)) p
+
+pub wave-refused : (file : List ℕ) (n d : ℕ) → First (waveRows file) n d → waveOf file ≡ []
+unfolding waveOf
+wave-refused file n d f = rw (wave-table file .refused-when n d .1 f)
+
+pub sound-refusal-stored : Every call.soundRefusal λ run. StoredBy run (waveRows (run .file)) [] refusedLine
+unfolding waveRefusal
+sound-refusal-stored κs a x s p =
+    let run : PieceRun = call.soundRefusal .seen κs a x s in
+    piece run refusalFor (wave-table (run .file)) p

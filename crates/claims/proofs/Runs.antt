@@ -1,25 +1,21 @@
--- What a run of the frame call leaves in lent memory, from the call's own promise: each cell by the cell rule.
-use Prim.Native.Nat.{ℕ, _/_, _%_, _<_, _≤_}
-use mathlib.Core.Path.{_≡_, sym, _∙_, ap}
-use mathlib.Core.List.{List}
+-- What a run of the frame call leaves in lent memory, from the call's own promise: each cell by the cell rule. And that there is a run.
+use Prim.Native.Nat.{ℕ, _≤_}
+use mathlib.Core.Path.{_≡_, refl, sym, _∙_, ap, subst}
+use mathlib.Core.List.{List, []}
 use native.Mathlib.Omega.{arith}
-use lib.ListN.{length, getD}
+use lib.ListN.{length}
 use borrow.Author.Tests.{eq-eqb, le-ltb}
+use denote.Ref.{RefT}
 use Rattle.buffers.specs.Painted.{painted}
 use Rattle.buffers.proofs.Paints.{Paints, paints-of}
-use Rattle.registers.specs.Table.{Told, given, told, unlessRefused}
+use Rattle.registers.specs.Table.{Told, given, unlessRefused}
 use Rattle.registers.specs.Setting.{settingOf, videoWords, cursorWords}
 use Rattle.registers.specs.declared.record.Registers.{Registers}
-use Rattle.frame.specs.Cell.{cell}
+use Rattle.registers.specs.declared.refusal.Answer.the-variants.{Done}
 use Rattle.frame.specs.Frame.{cells, frameCell, frameTold, frameHeld}
-use Rattle.claims.specs.Run.{FrameRun, Right}
-
--- What lent memory holds after a frame call that is not refused.
-pub record Framed (g : Registers) (video cursor before after : List ℕ) : Type 0 where
-  pub long : length after ≡ length before
-  pub each : (k : ℕ) → k < cells (settingOf g)
-      → getD after k 0 ≡ cell g (settingOf g) video cursor (k % settingOf g .n .0) (k / settingOf g .n .0)
-  pub beyond : (k : ℕ) → cells (settingOf g) ≤ k → getD after k 0 ≡ getD before k 0
+use Rattle.claims.specs.Calls.{Call, Every, Ran}
+use Rattle.claims.specs.Views as call
+use Rattle.claims.specs.Framed.{On, Right, Framed}
 
 module _ {g : Registers} {video cursor before : List ℕ} where
   right-told : Right g video cursor before → frameTold g video cursor (length before) ≡ given tt
@@ -42,16 +38,42 @@ module _ {g : Registers} {video cursor before : List ℕ} where
   held-framed : {after : List ℕ} → Right g video cursor before → after ≡ frameHeld g video cursor before → Framed g video cursor before after
   unfolding frameHeld
   held-framed r h =
-      painted-framed (r .room)
-      (h ∙ ap (λ (u : Told (Unit {0})). unlessRefused u before (painted before 0 (cells (settingOf g)) (frameCell g (settingOf g) video cursor))) (right-told r))
+      let drawn = painted before 0 (cells (settingOf g)) (frameCell g (settingOf g) video cursor) in
+      painted-framed (r .room) (h ∙ ap (λ (u : Told (Unit {0})). unlessRefused u before drawn) (right-told r))
 
-  module _ {after : List ℕ} (run : FrameRun g video cursor before after) (r : Right g video cursor before) where
-    -- Asked rightly, the call is not refused,
-    pub frame-answers : told (run .answer) ≡ given tt
-    frame-answers = run .promise .0 ∙ rw (run .record-is, run .video-is, run .cursor-is, run .before-is) (right-told r)
+-- Asked rightly, the call is not refused, and every cell is the rule's.
+pub each-cell : Every call.frame λ run. Right (run .registers) (run .video) (run .cursor) (run .before)
+    → (run .answer ≡ given tt) × Framed (run .registers) (run .video) (run .cursor) (run .before) (run .after)
+each-cell κs a x s p r = (p .0 ∙ right-told r, held-framed r (p .1))
 
-    -- and every cell is the rule's.
-    pub framed : Framed g video cursor before after
-    framed =
-        held-framed r
-        (sym (run .after-is) ∙ run .promise .1 ∙ rw (run .record-is, run .video-is, run .cursor-is, run .before-is))
+pub framed : {g : Registers} {video cursor : List ℕ}
+    → Every call.frame λ run. On g video cursor run → Right g video cursor (run .before) → Framed g video cursor (run .before) (run .after)
+framed κs a x s p on r = held-framed r (p .1 ∙ rw (on .registers-are, on .video-is, on .cursor-is))
+
+-- What holds of every run holds of a run that there is.
+pub of-run : (c : Call) (holds : c .Seen → Type 0) → Every c holds → (run : c .Seen) → Ran c run → holds run
+of-run c holds every run r = subst holds (r .is) (every (r .lifetimes) (r .arguments) (r .answer) (r .exit) (r .promise))
+
+-- A list as it is lent.
+lent : List ℕ → RefT (List ℕ)
+lent l = record { ptr = (0, 0); name = 0; now = l }
+
+-- Asked rightly, there is a run: what is said of every run is not said of none.
+pub right-runs : (g : Registers) (video cursor before : List ℕ) → Right g video cursor before
+    → Ran call.frame (record {
+      registers = g;
+      video = video;
+      cursor = cursor;
+      answer = given tt;
+      before = before;
+      after = frameHeld g video cursor before;
+    })
+unfolding lent
+right-runs g video cursor before r = record {
+  lifetimes = ([], ([], ([], tt)));
+  arguments = (g, (lent video, (lent cursor, (lent before, tt))));
+  answer = Done;
+  exit = (g, (lent video, (lent cursor, (lent (frameHeld g video cursor before), tt))));
+  promise = (sym (right-told r), refl);
+  is = refl;
+}

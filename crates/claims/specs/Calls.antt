@@ -14,6 +14,32 @@ abbrev pub Always : (n : ℕ) (ps : List (PK n)) (r : RK n)
 Always n ps r holds post =
     (κs : Lfts n) (a : Dens κs ps) (x : resT r κs .Denot) (s : AtExit (endedOf n ps r) κs) → post κs a x s → holds κs a x s
 
+-- A call: its parameters, its promise (`Post` is its `ensures` as the source states it), and what is seen of a run, by name.
+pub record Call : Type 3 where
+  pub lifetimes : ℕ
+  pub parameters : List (PK lifetimes)
+  pub result : RK lifetimes
+  pub promise : Out lifetimes parameters result
+  pub Seen : Type 0
+  pub seen : (κs : Lfts lifetimes) → Dens κs parameters → resT result κs .Denot → AtExit (endedOf lifetimes parameters result) κs → Seen
+
+abbrev pub call : (n : ℕ) (ps : List (PK n)) (r : RK n) → Out n ps r → (Seen : Type 0)
+    → ((κs : Lfts n) → Dens κs ps → resT r κs .Denot → AtExit (endedOf n ps r) κs → Seen) → Call
+call n ps r post Seen seen = record { lifetimes = n; parameters = ps; result = r; promise = post; Seen = Seen; seen = seen }
+
+-- What holds of everything that can be seen of a call.
+abbrev pub Every : (c : Call) → (c .Seen → Type 0) → Type 0
+Every c holds = Always (c .lifetimes) (c .parameters) (c .result) (λ κs a x s. holds (c .seen κs a x s)) (c .promise)
+
+-- A call was run, as its promise permits, and this was seen of it.
+pub record Ran (c : Call) (run : c .Seen) : Type 0 where
+  pub lifetimes : Lfts (c .lifetimes)
+  pub arguments : Dens lifetimes (c .parameters)
+  pub answer : resT (c .result) lifetimes .Denot
+  pub exit : AtExit (endedOf (c .lifetimes) (c .parameters) (c .result)) lifetimes
+  pub promise : c .promise lifetimes arguments answer exit
+  pub is : c .seen lifetimes arguments answer exit ≡ run
+
 -- The numbers of a table, in its order.
 abbrev pub numbers : List Row → List ℕ
 numbers [] = []

@@ -1,6 +1,12 @@
 pub mod Shown
 pub mod Exhibited
-pub mod Run
 pub mod Calls
+pub mod Views
+pub mod Framed
+pub mod RoundTrip
+pub mod Pieces
 pub mod Rows
+pub mod CRows
+pub mod CViews
 pub mod Marked
+pub mod SmallText

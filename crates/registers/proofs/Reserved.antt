@@ -1,6 +1,6 @@
 -- The reserved addresses lie in three gaps: computed at each of the 64 slots, and beyond them no register has an address.
 use Prim.Native.Nat.{ℕ, zero, suc, _+_, _*_, _<_, _≤_}
-use mathlib.Core.Path.{_≡_, refl}
+use mathlib.Core.Path.{_≡_, refl, _∙_}
 use mathlib.Core.Bool.{Bool, true, false, _&&_, _||_, not}
 use mathlib.Core.List.{List, [], _∷_}
 use native.Mathlib.Omega.{arith}
@@ -9,7 +9,7 @@ use lib.ListN.{replicate}
 use borrow.Author.Tests.{ltb-true, ltb-false, lt-ltb, ne-eqb}
 use Rattle.buffers.specs.Pick.{pick}
 use Rattle.buffers.proofs.Table.{at}
-use Rattle.buffers.proofs.Tests.{and-split, or-right}
+use Rattle.buffers.proofs.Tests.{and-split, or-right, or-neither}
 use Rattle.registers.specs.Record.{addresses, oneOf, reserved}
 
 -- Behind the cursor's palette up to the stereo registers, behind the sound frequency up to control, and behind control.
@@ -58,6 +58,12 @@ gaps-reserved slot = go (ltb slot 64) refl
     go : (b : Bool) → ltb slot 64 ≡ b → inGap slot ≡ reserved slot
     go true e = within slot (ltb-true _ _ e)
     go false e = beyond slot (ltb-false _ _ e)
+
+-- A slot that is not reserved is one of the 64.
+pub unreserved : (slot : ℕ) → reserved slot ≡ false → slot < 64
+unreserved slot e =
+    let high = or-neither ((ltb 19 slot && ltb slot 24) || (ltb 48 slot && ltb slot 56)) (ltb 56 slot) (gaps-reserved slot ∙ e) .1 in
+    omega (arith, ltb-false 56 slot high)
 
 -- How many of the first n slots are reserved: of all 64, 18.
 abbrev pub reservedBelow : ℕ → ℕ

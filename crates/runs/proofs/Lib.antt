@@ -8,3 +8,4 @@ pub mod Lines
 pub mod Pictures
 pub mod Unique
 pub mod Waves
+pub mod Spread

@@ -1,11 +1,13 @@
 -- What the two calls tell, from what the check tells.
-use Prim.Native.Nat.{ℕ, _+_, _-_, _≤_}
+use Prim.Native.Nat.{ℕ, _+_, _*_, _-_, _≤_}
 use mathlib.Core.List.{List, []}
 use mathlib.Core.Path.{_≡_, refl, sym, _∙_, ap}
 use native.Mathlib.Nat.{add-sub-cancel-left}
+use native.Mathlib.Omega.{arith}
 use borrow.Author.Tests.{eqb-true, not-false}
 use lib.Dec.{eqb}
 use lib.ListN.{length, take, drop}
+use denote.Ref.{RefT, ptr, now}
 use Rattle.registers.specs.Table.{Told, given, refused, judged, andThen, refusal}
 use Rattle.registers.specs.Setting.{videoWords}
 use Rattle.registers.specs.Check.{checkTold, checkSays}
@@ -16,7 +18,7 @@ use Rattle.registers.specs.declared.check.Checked.{Checked}
 use Rattle.registers.specs.declared.check.Checked.the-variants as checked
 use Rattle.registers.proofs.Tables.{never, given-passes}
 use Rattle.registers.proofs.Accepted.{Accepted, accepted}
-use Rattle.stretch.specs.Stretch.{stretchOf, stretchTable, stretchTold, foundSays, wordsTold, answerTold}
+use Rattle.stretch.specs.Stretch.{stretchOf, stretchTable, stretchTold, foundSays, PartOf, answerTold}
 use Rattle.stretch.specs.declared.found.Stretch.{Stretch}
 use Rattle.stretch.specs.declared.found.Found.{Found}
 use Rattle.stretch.specs.declared.found.Found.the-variants as found
@@ -53,9 +55,6 @@ module _ (g : Registers) (video : List ℕ) (y : ℕ) {p : Stretch} where
   given-room h = room-by (checkTold g) refl h
 
 module _ (g : Registers) (video : List ℕ) (y : ℕ) (x : Found) (c : foundSays x ≡ stretchTold g video y) where
-  pub words-refused : {why : Refusal} → x ≡ found.Refused why → [] ≡ wordsTold video (stretchTold g video y)
-  words-refused e = rw (← c, e)
-
   pub answer-refused : {why : Refusal} → x ≡ found.Refused why → refusal why ≡ answerTold (stretchTold g video y)
   answer-refused e = rw (← c, e)
 
@@ -63,8 +62,18 @@ module _ (g : Registers) (video : List ℕ) (y : ℕ) (x : Found) (c : foundSays
     pub words-room : p .start + p .count ≤ length video
     words-room = given-room g video y (sym c ∙ ap foundSays e)
 
-    pub words-given : take (p .start + p .count - p .start) (drop (p .start) video) ≡ wordsTold video (stretchTold g video y)
-    words-given = rw (← c, e, add-sub-cancel-left (p .start) (p .count))
-
     pub answer-given : given tt ≡ answerTold (stretchTold g video y)
     answer-given = rw (← c, e)
+
+-- A part of the lent list by two ends of it: the stretch that is given, and an empty part at the list's front where the call is refused.
+module _ (g : Registers) (list part : RefT (List ℕ)) (y : ℕ) (x : Found) (c : foundSays x ≡ stretchTold g (now list) y)
+    (memory : ptr part .0 ≡ ptr list .0) where
+  pub returned-none : {why : Refusal} → x ≡ found.Refused why → now part ≡ [] → ptr part .1 ≡ ptr list .1
+      → PartOf list part (stretchTold g (now list) y)
+  returned-none e words place = rw (← c, e) (record { words = words; memory = memory; place = omega (arith, place) })
+
+  pub returned-stretch : {p : Stretch} → x ≡ found.At p → now part ≡ take (p .start + p .count - p .start) (drop (p .start) (now list))
+      → ptr part .1 ≡ ptr list .1 + 4 * p .start → PartOf list part (stretchTold g (now list) y)
+  returned-stretch {p} e words place =
+      let count : p .start + p .count - p .start ≡ p .count = add-sub-cancel-left (p .start) (p .count) in
+      rw (← c, e) (record { words = rw count at words; memory = memory; place = place })

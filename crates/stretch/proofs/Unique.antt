@@ -1,8 +1,8 @@
--- For each call, any two answers that its contract permits are the same. Of a returned part, that it reads the same.
+-- For each call, any two answers that its contract permits are the same. Of a returned part, that it reads the same words at the same place.
 use mathlib.Core.Path.{_≡_, sym, ap, _∙_}
 use borrow.Fn.Kinds.{Dens, resT, endedOf}
 use contract.Lifetimes.{Lfts}
-use denote.Ref.{now}
+use denote.Ref.{ptr, now}
 use denote.Triple.Clauses.{AtExit}
 use Rattle.buffers.proofs.Coincide.{OneAnswer}
 use Rattle.registers.proofs.Told.{same-answer, same-refusal}
@@ -19,8 +19,9 @@ use Rattle.stretch.proofs.raster_words_answer.Reads as answer-reads
 
 pub one-raster-words : (κs : Lfts 1) (a : Dens κs words-kinds.ps) (x y : resT words-kinds.r κs .Denot)
     (s t : AtExit (endedOf 1 words-kinds.ps words-kinds.r) κs)
-    → words-reads.Post κs a x s → words-reads.Post κs a y t → now x ≡ now y
-one-raster-words κs a x y s t p q = p ∙ sym q
+    → words-reads.Post κs a x s → words-reads.Post κs a y t → (now x ≡ now y) × (ptr x ≡ ptr y)
+one-raster-words κs a x y s t p q =
+    (p .words ∙ sym (q .words), λ i. ((p .memory ∙ sym (q .memory)) i, (p .place ∙ sym (q .place)) i))
 
 pub one-raster-words-answer : OneAnswer 1 answer-kinds.ps answer-kinds.r answer-reads.Post
 one-raster-words-answer κs a x y s t p q = same-answer x y (p ∙ sym q)

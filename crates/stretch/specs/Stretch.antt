@@ -1,9 +1,11 @@
 -- The words of one displayed raster: that stretch of the caller's own list.
-use Prim.Native.Nat.{ℕ, _*_, _-_}
+use Prim.Native.Nat.{ℕ, _+_, _*_, _-_}
+use mathlib.Core.Path.{_≡_}
 use mathlib.Core.Bool.{Bool, _&&_}
 use mathlib.Core.List.{List, [], _∷_}
 use lib.Dec.{leb}
 use lib.ListN.{take, drop}
+use denote.Ref.{RefT, ptr, now}
 use Rattle.buffers.specs.Pick.{pick}
 use Rattle.registers.specs.Table.{Told, given, refused, Row, row, judged, andThen, refusal}
 use Rattle.registers.specs.Setting.{displayOn, rasterWords}
@@ -45,6 +47,17 @@ foundSays (Refused why) = refusal why
 abbrev pub wordsTold : List ℕ → Told Stretch → List ℕ
 wordsTold video (given p) = take (p .count) (drop (p .start) video)
 wordsTold video (refused n d) = []
+
+-- The word that it starts at; the list's first where there is no stretch.
+abbrev pub startTold : Told Stretch → ℕ
+startTold (given p) = p .start
+startTold (refused n d) = 0
+
+-- A part of a lent list is a stretch of it: it reads the stretch's words, in the list's own memory, 4 bytes on for each word before them.
+pub record PartOf (list part : RefT (List ℕ)) (t : Told Stretch) : Type 0 where
+  pub words : now part ≡ wordsTold (now list) t
+  pub memory : ptr part .0 ≡ ptr list .0
+  pub place : ptr part .1 ≡ ptr list .1 + 4 * startTold t
 
 -- And the refusal, or none.
 abbrev pub answerTold : Told Stretch → Told (Unit {0})

@@ -8,11 +8,11 @@ use registers::refusal::Answer;
 use registers::units::Rasters;
 ghost use mathlib.Core.Path.{_≡_};
 ghost use Rattle.registers.specs.Table.{told};
-ghost use Rattle.stretch.specs.Stretch.{stretchTold, wordsTold, answerTold};
+ghost use Rattle.stretch.specs.Stretch.{stretchTold, PartOf, answerTold};
 
-// The words of raster y; none where it is not displayed, or the call is refused.
+// The words of raster y, in the list's own memory; none where it is not displayed, or the call is refused.
 pub fn raster_words(g: Registers, video: &[u32], y: Rasters) -> &[u32]
-    ensures { λ r. ⌜ now r ≡ wordsTold (now (video .entry)) (stretchTold g (now (video .entry)) (y .0)) ⌝ }
+    ensures { λ r. ⌜ PartOf (video .entry) r (stretchTold g (now (video .entry)) (y .0)) ⌝ }
 {
     match find(g, video, y) {
         Found::Refused(_) => &video[0..0],

@@ -1,5 +1,6 @@
 //! Where the comparisons are counted and their differences printed.
 
+use crate::handed::Shape;
 use crate::judged::Judged;
 use second::refusal::Refusal;
 use std::collections::BTreeMap;
@@ -24,6 +25,8 @@ pub struct Bench {
     /// Number and detail of each refusal, how often met.
     pub refusals: BTreeMap<(u32, u32), u64>,
     pub sights: BTreeMap<&'static str, u64>,
+    /// For the C calls themselves: the slices of each call, and the shapes in which each was handed over.
+    pub shapes: BTreeMap<(&'static str, &'static str), BTreeMap<&'static str, u64>>,
 }
 
 impl Bench {
@@ -79,5 +82,11 @@ impl Bench {
     /// Notes that an input had something in it that should not be missed.
     pub fn see(&mut self, sight: &'static str, there: bool) {
         *self.sights.entry(sight).or_default() += u64::from(there);
+    }
+
+    /// Notes in which shape a slice was handed over.
+    pub fn hand(&mut self, call: &'static str, (slice, shape, there): Shape) {
+        let shapes = self.shapes.entry((call, slice)).or_default();
+        *shapes.entry(shape).or_default() += u64::from(there);
     }
 }

@@ -2,7 +2,7 @@
 
 use crate::bench::Bench;
 use crate::random::Random;
-use crate::{files, large, pictures, registers, sounds, texts};
+use crate::{files, large, pictures, raw_files, raw_pictures, raw_records, registers, sounds, texts};
 
 pub struct Family {
     pub name: &'static str,
@@ -14,7 +14,7 @@ pub struct Family {
 const ONCE: u64 = u64::MAX;
 
 #[rustfmt::skip]
-pub const FAMILIES: [Family; 18] = [
+pub const FAMILIES: [Family; 24] = [
     Family { name: "load", every: 1, round: registers::load_round },
     Family { name: "check", every: 1, round: registers::check_round },
     Family { name: "check_sound", every: 1, round: registers::check_sound_round },
@@ -33,6 +33,12 @@ pub const FAMILIES: [Family; 18] = [
     Family { name: "large_text", every: 50, round: texts::large_text_round },
     Family { name: "long_file", every: 200, round: files::long_file_round },
     Family { name: "long_write", every: 100, round: files::long_write_round },
+    Family { name: "raw_record", every: 1, round: raw_records::raw_record_round },
+    Family { name: "raw_sound", every: 1, round: raw_records::raw_sound_round },
+    Family { name: "raw_picture", every: 1, round: raw_pictures::raw_picture_round },
+    Family { name: "raw_file", every: 1, round: raw_files::raw_file_round },
+    Family { name: "raw_text", every: 8, round: raw_files::raw_text_round },
+    Family { name: "raw_long_write", every: 1000, round: raw_files::raw_long_write_round },
 ];
 
 impl Family {
@@ -45,7 +51,7 @@ impl Family {
 
 /// Every family whose turn it is in this round.
 pub fn run_round(bench: &mut Bench, round: u64) {
-    for family in FAMILIES.iter().filter(|family| round.is_multiple_of(family.every)) {
+    for family in FAMILIES.iter().filter(|family| round % family.every == 0) {
         family.run(bench, round);
     }
 }

@@ -21,22 +21,26 @@ impl Judged {
         judged
     }
 
-    /// A call that writes bytes and tells how many, in both its forms.
+    /// Starts from an answer that is returned.
+    pub fn returning<T>(expected: Result<T, Refusal>, told: Result<T, vombelishi::Refusal>) -> Judged
+    where
+        T: PartialEq + Debug,
+    {
+        let mut judged = Judged { refused: expected.as_ref().err().copied(), differences: Vec::new() };
+        judged.returned(expected, told);
+        judged
+    }
+
+    /// A call that writes bytes and returns how many.
     pub fn bytes(
         random: &mut Random,
         expected: Result<&[u8], Refusal>,
         lent: usize,
-        into: impl Fn(&mut [u8], &mut [u64]) -> Result<(), vombelishi::Refusal>,
-        returning: impl Fn(&mut [u8]) -> Result<usize, vombelishi::Refusal>,
+        call: impl Fn(&mut [u8]) -> Result<usize, vombelishi::Refusal>,
     ) -> Judged {
-        let (mut out, mut length) = (Lent::new(random, lent), Lent::new(random, 1));
-        let mut again = out.clone();
-        let mut judged = Judged::answer(&expected, into(out.lend(), length.lend()));
-        judged.returned(expected.map(<[u8]>::len), returning(again.lend()));
-        let told: Vec<u64> = expected.iter().map(|bytes| bytes.len() as u64).collect();
-        judged.memory("length", &length, &told);
+        let mut out = Lent::new(random, lent);
+        let mut judged = Judged::returning(expected.map(<[u8]>::len), call(out.lend()));
         judged.memory("bytes", &out, expected.unwrap_or_default());
-        judged.memory("bytes beside the length returned", &again, expected.unwrap_or_default());
         judged
     }
 

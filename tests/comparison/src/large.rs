@@ -15,7 +15,7 @@ pub fn large_round(bench: &mut Bench, random: &mut Random) {
     let scene = if spoiled { scene(random, size) } else { right_scene(random, size) };
     compare_frame(bench, random, &scene);
     let threshold = (random.next() >> 56) as u8;
-    compare_marks(bench, random, &scene, threshold);
+    compare_marks(bench, &scene, threshold);
     let last = setting::check(&scene.record).map_or(0, |s| s.v - 1);
     for _ in 0..20 {
         let y = random.between(0, last) as u16;

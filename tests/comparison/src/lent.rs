@@ -1,12 +1,12 @@
-//! Lent memory: it carries a pattern beforehand, with a guard before and behind the lent
-//! part, and all of it is compared afterwards.
+//! Lent memory: it holds a pattern or given items beforehand, with a guard before and behind the lent part, and all of
+//! it is compared afterwards.
 
 use crate::random::Random;
-use std::fmt::Debug;
+use std::fmt::{Debug, LowerHex};
 
 const GUARD: usize = 16;
 
-pub trait Pattern: Copy + PartialEq + Debug {
+pub trait Pattern: Copy + PartialEq + Debug + LowerHex {
     fn cut(number: u64) -> Self;
 }
 
@@ -22,17 +22,23 @@ macro_rules! pattern {
 
 pattern!(u8, u16, i16, u32, u64);
 
-#[derive(Clone)]
 pub struct Lent<T> {
-    seed: u64,
+    before: Vec<T>,
     all: Vec<T>,
 }
 
 impl<T: Pattern> Lent<T> {
     pub fn new(random: &mut Random, length: usize) -> Lent<T> {
         let seed = random.next();
-        let all = (0..length + 2 * GUARD).map(|i| pattern_at(seed, i)).collect();
-        Lent { seed, all }
+        let before: Vec<T> = (0..length + 2 * GUARD).map(|i| pattern_at(seed, i)).collect();
+        Lent { all: before.clone(), before }
+    }
+
+    pub fn holding(random: &mut Random, items: &[T]) -> Lent<T> {
+        let mut lent = Lent::new(random, items.len());
+        lent.before[GUARD..GUARD + items.len()].copy_from_slice(items);
+        lent.all.clone_from(&lent.before);
+        lent
     }
 
     pub fn lend(&mut self) -> &mut [T] {
@@ -40,11 +46,16 @@ impl<T: Pattern> Lent<T> {
         &mut self.all[GUARD..end]
     }
 
-    /// None if the memory holds `painted` from its start and the pattern everywhere else.
+    /// What was lent, as it was beforehand.
+    pub fn given(&self) -> &[T] {
+        &self.before[GUARD..self.before.len() - GUARD]
+    }
+
+    /// None if the memory holds `painted` from its start and what it held before everywhere else.
     pub fn difference(&self, painted: &[T]) -> Option<String> {
         let right = |i: usize| match i.checked_sub(GUARD) {
             Some(place) if place < painted.len() => painted[place],
-            _ => pattern_at(self.seed, i),
+            _ => self.before[i],
         };
         let wrong = (0..self.all.len()).find(|&i| self.all[i] != right(i))?;
         Some(format!(

@@ -5,6 +5,7 @@ mod bench;
 mod damage;
 mod families;
 mod files;
+mod handed;
 mod judged;
 mod large;
 mod lent;
@@ -15,6 +16,9 @@ mod ours;
 mod pictures;
 mod printer;
 mod random;
+mod raw_files;
+mod raw_pictures;
+mod raw_records;
 mod registers;
 mod show;
 mod sounds;
@@ -27,14 +31,16 @@ use crate::printer::{compare_printer, PLATES};
 use crate::random::Random;
 use std::time::{Duration, Instant};
 
-const USAGE: &str = "compare [--seed N] [--rounds N] [--only FAMILY [--round R]] [--printer PATH] [--trace]";
+const USAGE: &str =
+    "compare [--seed N] [--rounds N] [--only FAMILY [--round R]] [--trace] [--printer PROGRAM WORD ..]";
 
 struct Wishes {
     seed: u64,
     rounds: u64,
     only: Option<String>,
     round: Option<u64>,
-    printer: Option<String>,
+    /// The program and the words that it is started with.
+    printer: Vec<String>,
     trace: bool,
     soak: Duration,
 }
@@ -60,7 +66,7 @@ fn wishes() -> Wishes {
         rounds: 30_000,
         only: None,
         round: None,
-        printer: None,
+        printer: Vec::new(),
         trace: false,
         soak: Duration::from_secs(soak),
     };
@@ -72,8 +78,11 @@ fn wishes() -> Wishes {
             "--rounds" => wishes.rounds = number(&value()),
             "--only" => wishes.only = Some(value()),
             "--round" => wishes.round = Some(number(&value())),
-            "--printer" => wishes.printer = Some(value()),
             "--trace" => wishes.trace = true,
+            "--printer" => {
+                wishes.printer.push(value());
+                wishes.printer.extend(words.by_ref());
+            }
             _ => usage(),
         }
     }
@@ -114,17 +123,17 @@ fn run_only(bench: &mut Bench, wishes: &Wishes, name: &str) {
 }
 
 fn run_printer(bench: &mut Bench, wishes: &Wishes, rounds: std::ops::Range<u64>) {
-    let Some(program) = &wishes.printer else {
+    if wishes.printer.is_empty() {
         return;
-    };
+    }
     for round in rounds {
         bench.begin("printer", round);
         let mut random = Random::new(bench.seed, "printer", round);
-        compare_printer(bench, &mut random, program);
+        compare_printer(bench, &mut random, &wishes.printer);
     }
 }
 
-/// In a whole run, what was never met is a failure.
+/// In a whole run, what was never met is a failure. So is a run that compared nothing.
 fn finish(bench: &mut Bench, whole: bool) {
     let missing = if whole { tables::never_met(bench) } else { Vec::new() };
     for what in &missing {
@@ -132,5 +141,5 @@ fn finish(bench: &mut Bench, whole: bool) {
     }
     let failed = bench.failed + missing.len() as u64;
     println!("{} passed, {} failed", bench.passed, failed);
-    std::process::exit(i32::from(failed != 0));
+    std::process::exit(i32::from(failed != 0 || bench.passed == 0));
 }

@@ -91,7 +91,7 @@ pub fn compare_raster(bench: &mut Bench, random: &mut Random, scene: &Scene, y: 
     bench.count("raster", judged, || format!("{}\nraster {y}\nbuffer of {length} cells", scene.show()));
 }
 
-/// A refusal gives an empty stretch too: 0 long, from 0.
+/// An undisplayed raster has an empty stretch: 0 long, from 0.
 pub fn compare_raster_words(bench: &mut Bench, random: &mut Random, scene: &Scene, y: u16) {
     let Scene { record, video, .. } = scene;
     let expected = raster_words::raster_words(record, video, y);
@@ -103,10 +103,11 @@ pub fn compare_raster_words(bench: &mut Bench, random: &mut Random, scene: &Scen
         expected.clone().map(|range| place(&video[range])),
         given.raster_words(video, y).map(place),
     );
-    let stretch = expected.unwrap_or(0..0);
-    judged.memory("start and length", &lent, &[stretch.start as u64, stretch.len() as u64]);
-    bench.see("raster without words", judged.refused.is_none() && stretch.is_empty());
-    bench.see("raster with words", !stretch.is_empty());
+    let stretch: Vec<u64> =
+        expected.iter().flat_map(|range| [range.start, range.len()]).map(|n| n as u64).collect();
+    judged.memory("start and length", &lent, &stretch);
+    bench.see("raster without words", stretch == [0, 0]);
+    bench.see("raster with words", stretch.iter().any(|n| *n > 0));
     bench.count("raster_words", judged, || format!("{}\nraster {y}", scene.show()));
 }
 
@@ -114,25 +115,19 @@ pub fn marks_round(bench: &mut Bench, random: &mut Random) {
     let size = small_or_wide(random);
     let scene = scene(random, size);
     for threshold in [0, 1, 127, 128, 254, 255] {
-        compare_marks(bench, random, &scene, threshold);
+        compare_marks(bench, &scene, threshold);
     }
     let entry = scene.record.values[random.between(0, 15) as usize];
     let level = grey::grey(entry as u16);
-    compare_marks(bench, random, &scene, level);
-    compare_marks(bench, random, &scene, level.saturating_add(1));
+    compare_marks(bench, &scene, level);
+    compare_marks(bench, &scene, level.saturating_add(1));
 }
 
-pub fn compare_marks(bench: &mut Bench, random: &mut Random, scene: &Scene, threshold: u8) {
+pub fn compare_marks(bench: &mut Bench, scene: &Scene, threshold: u8) {
     let Scene { record, video, cursor } = scene;
     let expected = marks::marks(record, video, cursor, threshold);
-    let mut lent: Lent<u64> = Lent::new(random, 1);
-    let given = ours::record(record);
-    let told = given.marks_into(video, cursor, threshold, lent.lend());
-    let mut judged = Judged::answer(&expected, told);
-    judged.returned(expected, given.marks(video, cursor, threshold));
-    let count: Vec<u64> = expected.into_iter().collect();
-    judged.memory("count", &lent, &count);
-    bench.see("marks counted, not none", count.iter().any(|n| *n > 0));
+    let judged = Judged::returning(expected, ours::record(record).marks(video, cursor, threshold));
+    bench.see("marks counted, not none", expected.map_or(false, |count| count > 0));
     bench.count("marks", judged, || format!("{}\nthreshold {threshold}", scene.show()));
 }
 

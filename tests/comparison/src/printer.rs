@@ -13,20 +13,25 @@ use std::thread;
 
 pub const PLATES: u64 = 600;
 
-pub fn compare_printer(bench: &mut Bench, random: &mut Random, program: &str) {
+pub fn compare_printer(bench: &mut Bench, random: &mut Random, command: &[String]) {
     let size = if random.one_in(20) { random.pick(&[WIDE, TALL, MIDDLING]) } else { SMALL };
     let file = picture_file(random, size);
-    let printed = run(program, &file).unwrap_or_else(|error| format!("could not be run: {error}"));
+    let printed = run(command, &file).unwrap_or_else(|error| format!("could not be run: {error}"));
     let mut judged = Judged { refused: picture(&file).err(), ..Judged::default() };
     judged.same("text", &text(&file), &printed);
     bench.count("printer", judged, || format!("file {}", show::list(&file)));
 }
 
-fn run(program: &str, input: &[u8]) -> io::Result<String> {
-    let mut child = Command::new(program).stdin(Stdio::piped()).stdout(Stdio::piped()).spawn()?;
+/// What the command prints, or how it failed.
+fn run(command: &[String], input: &[u8]) -> io::Result<String> {
+    let mut start = Command::new(&command[0]);
+    let mut child = start.args(&command[1..]).stdin(Stdio::piped()).stdout(Stdio::piped()).spawn()?;
     let feeder = feed(&mut child, input.to_vec());
     let output = child.wait_with_output()?;
     feeder.join().expect("the feeding thread does not panic");
+    if !output.status.success() {
+        return Err(io::Error::new(io::ErrorKind::Other, output.status.to_string()));
+    }
     Ok(String::from_utf8_lossy(&output.stdout).into_owned())
 }
 

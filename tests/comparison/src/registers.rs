@@ -25,7 +25,7 @@ pub fn load_round(bench: &mut Bench, random: &mut Random) {
 }
 
 /// Words at named addresses, some lists with reserved ones, some too long.
-fn list(random: &mut Random) -> Vec<u32> {
+pub fn list(random: &mut Random) -> Vec<u32> {
     let count = match random.between(0, 19) {
         0 => random.pick(&[1023, 1024]),
         1 => random.pick(&[1025, 1026, 1100, 2000]),

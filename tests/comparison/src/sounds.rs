@@ -34,15 +34,12 @@ fn counter(random: &mut Random) -> u32 {
 fn compare_sound(bench: &mut Bench, random: &mut Random, record: &Record, words: &[u32], counter: u32) {
     let length = lent_length(random, 8 * words.len());
     let expected = sound(record, words, counter, length);
-    let (mut out, mut after) = (Lent::<i16>::new(random, length), Lent::<u32>::new(random, 1));
-    let (given, mut again) = (ours::record(record), out.clone());
-    let told = given.sound_into(words, counter, out.lend(), after.lend());
+    let (mut out, mut after) = (Lent::<i16>::new(random, length), counter);
+    let told = ours::record(record).sound(words, &mut after, out.lend());
     let mut judged = Judged::answer(&expected, told);
-    judged.returned(expected.clone().map(|(_, after)| after), given.sound(words, counter, again.lend()));
     let (values, counted) = expected.unwrap_or((Vec::new(), counter));
     judged.memory("values", &out, &values);
-    judged.memory("values beside the counter returned", &again, &values);
-    judged.memory("counter afterwards", &after, &[counted]);
+    judged.same("counter afterwards", &counted, &after);
     bench.see("sound counter wraps", counted < counter);
     bench.count("sound", judged, || {
         let (record, words) = (show::record(record), show::list(words));

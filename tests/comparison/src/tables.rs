@@ -3,8 +3,9 @@
 
 use crate::bench::{Bench, Row};
 
-/// The refusals that each call can give, from the paper's orders.
-const CAN_REFUSE: [(&str, &[usize]); 12] = [
+/// The refusals that each call can give, from the paper's orders. The C calls themselves, from `vom_load` on, are also
+/// given records, and memory for every answer, that are too short.
+const CAN_REFUSE: [(&str, &[usize]); 27] = [
     ("load", &[1, 2]),
     ("load_word", &[2]),
     ("check", &[3, 4, 5, 6, 7, 8, 9]),
@@ -17,18 +18,34 @@ const CAN_REFUSE: [(&str, &[usize]); 12] = [
     ("copy", &[13, 14]),
     ("write", &[13, 15]),
     ("text", &[1, 2, 3, 4, 5, 6, 7, 8, 9, 11, 13, 14, 15]),
+    ("vom_load", &[1, 2, 13]),
+    ("vom_load_word", &[2, 13]),
+    ("vom_check", &[3, 4, 5, 6, 7, 8, 9, 13]),
+    ("vom_check_sound", &[3, 10, 13]),
+    ("vom_frame", &[3, 4, 5, 6, 7, 8, 9, 11, 13]),
+    ("vom_raster", &[3, 4, 5, 6, 7, 8, 9, 11, 12, 13]),
+    ("vom_raster_words", &[3, 4, 5, 6, 7, 8, 9, 11, 12, 13]),
+    ("vom_marks", &[3, 4, 5, 6, 7, 8, 9, 11, 13]),
+    ("vom_colour", &[13]),
+    ("vom_sound", &[3, 10, 13]),
+    ("vom_sound_pair", &[10, 13]),
+    ("vom_read", &[13, 14]),
+    ("vom_copy", &[13, 14]),
+    ("vom_write", &[13, 15]),
+    ("vom_text", &[13]),
 ];
 
-const ALWAYS_ANSWERED: [&str; 4] = ["colour", "grey", "pin", "sound_pair"];
+const ALWAYS_ANSWERED: [&str; 6] = ["colour", "grey", "pin", "sound_pair", "vom_grey", "vom_pin"];
 
 pub fn print(bench: &Bench) {
     println!("inputs compared, by call: accepted, then refused by number");
-    println!("{:<14}{:>9}{}", "call", "accepted", (1..16).map(|n| format!("{n:>7}")).collect::<String>());
+    println!("{:<17}{:>9}{}", "call", "accepted", (1..16).map(|n| format!("{n:>7}")).collect::<String>());
     for (call, row) in &bench.calls {
         print_row(call, row);
     }
     print_row("all", &totals(bench));
     print_details(bench);
+    print_shapes(bench);
     println!("seen in the inputs:");
     for (sight, times) in &bench.sights {
         println!("{times:>10}  {sight}");
@@ -44,9 +61,17 @@ fn print_details(bench: &Bench) {
     }
 }
 
+fn print_shapes(bench: &Bench) {
+    println!("slices handed to the C calls themselves:");
+    for ((call, slice), shapes) in &bench.shapes {
+        let met: Vec<String> = shapes.iter().map(|(shape, times)| format!("{shape} {times}")).collect();
+        println!("  {call}, {slice}: {}", met.join(", "));
+    }
+}
+
 fn print_row(call: &str, row: &Row) {
     let numbers: String = row[1..].iter().map(|n| format!("{n:>7}")).collect();
-    println!("{call:<14}{:>9}{numbers}", row[0]);
+    println!("{call:<17}{:>9}{numbers}", row[0]);
 }
 
 fn totals(bench: &Bench) -> Row {
@@ -79,6 +104,11 @@ pub fn never_met(bench: &Bench) -> Vec<String> {
     let all = totals(bench);
     missing.extend((1..16).filter(|&n| all[n] == 0).map(|n| format!("refusal {n}")));
     missing.extend(bench.sights.iter().filter(|(_, n)| **n == 0).map(|(s, _)| s.to_string()));
+    for ((call, slice), shapes) in &bench.shapes {
+        missing.extend(
+            shapes.iter().filter(|(_, n)| **n == 0).map(|(shape, _)| format!("{call}, {slice}: {shape}")),
+        );
+    }
     missing
 }
 

@@ -36,13 +36,7 @@ fn compare_text(bench: &mut Bench, random: &mut Random, file: &[u8]) {
     let lines = text(file);
     let length = lent_for(random, lines.len());
     let expected = refuse_if(length < lines.len(), BUFFER_SHORT).map(|()| lines.as_bytes());
-    let mut judged = Judged::bytes(
-        random,
-        expected,
-        length,
-        |out, size| library::text_into(file, out, size),
-        |out| library::text(file, out),
-    );
+    let mut judged = Judged::bytes(random, expected, length, |out| library::text(file, out));
     judged.refused = counted_as(file, expected.err());
     bench.see("text of 1,025 lines", lines.lines().count() == 1025);
     let long_run = lines.split_whitespace().any(|run| run.len() >= "2x1000".len());

@@ -91,7 +91,7 @@ pub fn check(record: &Record) -> Result<Setting, Refusal> {
     refuse_if(record.bits(CONTROL, 6, 6) != 0, INTERLACE)?;
     refuse_if(!s.horizontal_rule(), HORIZONTAL_RULE)?;
     refuse_if(!s.vertical_rule(), VERTICAL_RULE)?;
-    refuse_if(!((s.de - s.ds) * s.depth).is_multiple_of(32), WIDTH_NOT_WORDS)?;
+    refuse_if((s.de - s.ds) * s.depth % 32 != 0, WIDTH_NOT_WORDS)?;
     let sub_position = record.bits(HCSR, 12, 11);
     refuse_if(s.cursor_on && (sub_position != 0 || s.vce > s.v), CURSOR_RULE)?;
     Ok(s)

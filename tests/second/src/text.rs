@@ -38,10 +38,12 @@ pub fn picture(input: &[u8]) -> Result<String, Refusal> {
 
 /// One raster's runs, code x length, parted by one space, a newline after them.
 fn runs(raster: &[u16]) -> String {
-    raster
-        .chunk_by(|a, b| code(*a) == code(*b))
-        .map(|run| format!("{}x{}", code(run[0]), run.len()))
-        .collect::<Vec<_>>()
-        .join(" ")
-        + "\n"
+    let mut runs: Vec<(u16, usize)> = Vec::new();
+    for cell in raster {
+        match runs.last_mut() {
+            Some((same, length)) if *same == code(*cell) => *length += 1,
+            _ => runs.push((code(*cell), 1)),
+        }
+    }
+    runs.iter().map(|(code, length)| format!("{code}x{length}")).collect::<Vec<_>>().join(" ") + "\n"
 }

@@ -1,15 +1,32 @@
-use Rattle.registers.specs.Table.{told}
-use Rattle.registers.specs.Load.{applied, loadTold}
-use Rattle.c_calls.proofs.Loading.{load-short, load-refused, load-done}
-use Rattle.c_calls.specs.Load.{loadCall, loadValues, loadWritten}
-use Rattle.c_calls.proofs.Records.{long-enough}
-use mathlib.Core.Path.{sym, _∙_, ap}
+-- A list that is judged right is stored, else nothing is: the answer and both slices go by what judging tells.
 use borrow.Author.Needs.{needs}
+use mathlib.Core.Path.{sym, _∙_, ap}
+use Rattle.registers.specs.Table.{told}
+use Rattle.registers.specs.Load.{loadTold}
+use Rattle.c_calls.specs.Load.{valuesStored, flagsStored, loadCall, loadValues, loadWritten}
+use Rattle.c_calls.proofs.Answers.{twofold-refused, twofold-done}
+use Rattle.c_calls.proofs.Records.{not-short}
 use Rattle.c_calls.proofs.loads.vom_load.Statement.{statement}
 use Rattle.c_calls.proofs.loads.vom_load.Tie as tie
 
-lacks-requires : tie.Need-lacks-requires
-lacks-requires c κs = search needs
+judge-list-requires : tie.Need-judge-list-requires
+judge-list-requires c κs = search needs
+
+enum-known-why : tie.Need-enum-known-why
+enum-known-why c = search needs
+
+refused-requires : tie.Need-refused-requires
+refused-requires c κs = search needs
+
+enum-told : tie.Need-enum-told
+enum-told c = search needs
+
+put-list-requires : tie.Need-put-list-requires
+unfolding loadCall
+put-list-requires c κs =
+    let args = c .before .before .before .before .before .before .before .before .before .before .args in
+    not-short (args .values .now) (args .written .now) (λ g. loadTold (args .words .now)) tt
+    (sym (c .before .before .before .before .judge-list .ensures) ∙ ap told (c .before .before .enum-told .given .1))
 
 same-length : tie.Need-same-length
 same-length c = search needs
@@ -18,26 +35,12 @@ same-length-2 : tie.Need-same-length-2
 same-length-2 c = search needs
 
 returns : tie.Need-returns
-unfolding loadCall loadValues loadWritten
-returns c = load-short (c .before .before .before .before .before .before .before .args .values .now) (c .before .before .before .before .before .before .before .args .written .now) (loadTold (c .before .before .before .before .before .before .before .args .words .now)) (λ g. applied g (c .before .before .before .before .before .before .before .args .words .now)) (sym (c .before .lacks .ensures) ∙ c .if1 .taken)
-
-record-of-requires : tie.Need-record-of-requires
-record-of-requires c κs = long-enough (c .before .before .before .before .before .before .before .before .before .args .values .now) (c .before .before .before .before .before .before .before .before .before .args .written .now) (sym (c .before .before .before .lacks .ensures) ∙ c .before .before .if1 .left)
-
-load-requires : tie.Need-load-requires
-load-requires c κs = search needs
-
-enum-known-answer : tie.Need-enum-known-answer
-enum-known-answer c = search needs
-
-refused-requires : tie.Need-refused-requires
-refused-requires c κs = search needs
-
-enum-told : tie.Need-enum-told
-enum-told c = search needs
-
-put-record-requires : tie.Need-put-record-requires
-put-record-requires c κs = long-enough (c .before .before .before .before .before .before .before .before .before .before .before .before .before .before .before .args .values .now) (c .before .before .before .before .before .before .before .before .before .before .before .before .before .before .before .args .written .now) (sym (c .before .before .before .before .before .before .before .before .before .lacks .ensures) ∙ c .before .before .before .before .before .before .before .before .if1 .left)
+unfolding loadValues loadWritten
+returns c =
+    let args = c .before .before .before .before .before .before .before .before .before .before .args in
+    twofold-refused (loadCall (args .values .now) (args .written .now) (args .words .now))
+    (args .values .now) (valuesStored (args .values .now) (args .words .now)) (args .written .now) (flagsStored (args .written .now) (args .words .now)) _ _ _
+    (sym (c .before .before .before .before .judge-list .ensures) ∙ ap told (c .before .before .why .given .1)) (c .refused .ensures)
 
 same-length-3 : tie.Need-same-length-3
 same-length-3 c = search needs
@@ -46,36 +49,27 @@ same-length-4 : tie.Need-same-length-4
 same-length-4 c = search needs
 
 returns-2 : tie.Need-returns-2
-unfolding loadCall loadValues loadWritten
-returns-2 c = load-refused (c .before .before .before .before .before .before .before .before .before .before .before .before .before .before .before .args .values .now) (c .before .before .before .before .before .before .before .before .before .before .before .before .before .before .before .args .written .now) (loadTold (c .before .before .before .before .before .before .before .before .before .before .before .before .before .before .before .args .words .now)) (λ g. applied g (c .before .before .before .before .before .before .before .before .before .before .before .before .before .before .before .args .words .now)) _ _ _ (sym (c .before .before .before .before .before .before .before .before .before .lacks .ensures) ∙ c .before .before .before .before .before .before .before .before .if1 .left) (sym (c .before .before .before .before .load .ensures .0) ∙ ap told (c .before .before .answer .given .1)) (c .refused .ensures)
-
-same-length-5 : tie.Need-same-length-5
-same-length-5 c = search needs
-
-same-length-6 : tie.Need-same-length-6
-same-length-6 c = search needs
-
-returns-3 : tie.Need-returns-3
-unfolding loadCall loadValues loadWritten
-returns-3 c = load-done (c .before .before .before .before .before .before .before .before .before .before .before .before .before .before .before .before .before .before .before .before .args .values .now) (c .before .before .before .before .before .before .before .before .before .before .before .before .before .before .before .before .before .before .before .before .args .written .now) (loadTold (c .before .before .before .before .before .before .before .before .before .before .before .before .before .before .before .before .before .before .before .before .args .words .now)) (λ g. applied g (c .before .before .before .before .before .before .before .before .before .before .before .before .before .before .before .before .before .before .before .before .args .words .now)) _ _ _ _ (sym (c .before .before .before .before .before .before .before .before .before .before .before .before .before .before .lacks .ensures) ∙ c .before .before .before .before .before .before .before .before .before .before .before .before .before .if1 .left) (c .before .before .before .before .before .before .before .before .before .before .record-of .ensures) (c .before .before .before .before .before .before .before .before .before .load .ensures .1) (sym (c .before .before .before .before .before .before .before .before .before .load .ensures .0) ∙ ap told (c .before .before .before .before .before .before .before .enum-told .given .1)) (c .before .before .before .before .put-record .ensures .0) (c .before .before .before .before .put-record .ensures .1)
+unfolding loadValues loadWritten
+returns-2 c =
+    let args = c .before .before .before .before .before .before .before .before .before .before .before .before .before .before .before .args in
+    let judged = c .before .before .before .before .before .before .before .before .before .judge-list in
+    let put = c .before .before .before .before .put-list in
+    twofold-done (loadCall (args .values .now) (args .written .now) (args .words .now))
+    (args .values .now) (valuesStored (args .values .now) (args .words .now)) (args .written .now) (flagsStored (args .written .now) (args .words .now)) _ _
+    (sym (judged .ensures) ∙ ap told (c .before .before .before .before .before .before .before .enum-told .given .1)) (put .ensures .0) (put .ensures .1)
 
 pub vom-load-spec : {M : Type 1} → statement M
 vom-load-spec =
     tie.close
     (tie.spec
-    lacks-requires
+    judge-list-requires
+    enum-known-why
+    refused-requires
+    enum-told
+    put-list-requires
     same-length
     same-length-2
     returns
-    record-of-requires
-    load-requires
-    enum-known-answer
-    refused-requires
-    enum-told
-    put-record-requires
     same-length-3
     same-length-4
-    returns-2
-    same-length-5
-    same-length-6
-    returns-3)
+    returns-2)

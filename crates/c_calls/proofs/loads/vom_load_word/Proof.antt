@@ -1,15 +1,32 @@
-use Rattle.registers.specs.Table.{told}
-use Rattle.registers.specs.Record.{storedOf, wordTold}
-use Rattle.c_calls.proofs.Loading.{load-short, load-refused, load-done}
-use Rattle.c_calls.specs.Load.{wordCall, wordValues, wordWritten}
-use Rattle.c_calls.proofs.Records.{long-enough}
-use mathlib.Core.Path.{sym, _∙_, ap}
+-- A word that is judged right is stored, else nothing is: the answer and both slices go by what judging tells.
 use borrow.Author.Needs.{needs}
+use mathlib.Core.Path.{sym, _∙_, ap}
+use Rattle.registers.specs.Table.{told}
+use Rattle.registers.specs.Record.{wordTold}
+use Rattle.c_calls.specs.Load.{valueStored, flagStored, wordCall, wordValues, wordWritten}
+use Rattle.c_calls.proofs.Answers.{twofold-refused, twofold-done}
+use Rattle.c_calls.proofs.Records.{not-short}
 use Rattle.c_calls.proofs.loads.vom_load_word.Statement.{statement}
 use Rattle.c_calls.proofs.loads.vom_load_word.Tie as tie
 
-lacks-requires : tie.Need-lacks-requires
-lacks-requires c κs = search needs
+judge-word-requires : tie.Need-judge-word-requires
+judge-word-requires c κs = search needs
+
+enum-known-why : tie.Need-enum-known-why
+enum-known-why c = search needs
+
+refused-requires : tie.Need-refused-requires
+refused-requires c κs = search needs
+
+enum-told : tie.Need-enum-told
+enum-told c = search needs
+
+put-word-requires : tie.Need-put-word-requires
+unfolding wordCall
+put-word-requires c κs =
+    let args = c .before .before .before .before .before .before .before .before .before .args in
+    not-short (args .values .now) (args .written .now) (λ g. wordTold (args .word)) tt
+    (sym (c .before .before .before .before .judge-word .ensures) ∙ ap told (c .before .before .enum-told .given .1))
 
 same-length : tie.Need-same-length
 same-length c = search needs
@@ -18,26 +35,12 @@ same-length-2 : tie.Need-same-length-2
 same-length-2 c = search needs
 
 returns : tie.Need-returns
-unfolding wordCall wordValues wordWritten
-returns c = load-short (c .before .before .before .before .before .before .args .values .now) (c .before .before .before .before .before .before .args .written .now) (wordTold (c .before .before .before .before .before .before .args .word)) (λ g. storedOf g (c .before .before .before .before .before .before .args .word)) (sym (c .before .lacks .ensures) ∙ c .if1 .taken)
-
-record-of-requires : tie.Need-record-of-requires
-record-of-requires c κs = long-enough (c .before .before .before .before .before .before .before .before .args .values .now) (c .before .before .before .before .before .before .before .before .args .written .now) (sym (c .before .before .before .lacks .ensures) ∙ c .before .before .if1 .left)
-
-load-word-requires : tie.Need-load-word-requires
-load-word-requires c κs = search needs
-
-enum-known-answer : tie.Need-enum-known-answer
-enum-known-answer c = search needs
-
-refused-requires : tie.Need-refused-requires
-refused-requires c κs = search needs
-
-enum-told : tie.Need-enum-told
-enum-told c = search needs
-
-put-record-requires : tie.Need-put-record-requires
-put-record-requires c κs = long-enough (c .before .before .before .before .before .before .before .before .before .before .before .before .before .before .args .values .now) (c .before .before .before .before .before .before .before .before .before .before .before .before .before .before .args .written .now) (sym (c .before .before .before .before .before .before .before .before .before .lacks .ensures) ∙ c .before .before .before .before .before .before .before .before .if1 .left)
+unfolding wordValues wordWritten
+returns c =
+    let args = c .before .before .before .before .before .before .before .before .before .args in
+    twofold-refused (wordCall (args .values .now) (args .written .now) (args .word))
+    (args .values .now) (valueStored (args .values .now) (args .word)) (args .written .now) (flagStored (args .written .now) (args .word)) _ _ _
+    (sym (c .before .before .before .before .judge-word .ensures) ∙ ap told (c .before .before .why .given .1)) (c .refused .ensures)
 
 same-length-3 : tie.Need-same-length-3
 same-length-3 c = search needs
@@ -46,36 +49,27 @@ same-length-4 : tie.Need-same-length-4
 same-length-4 c = search needs
 
 returns-2 : tie.Need-returns-2
-unfolding wordCall wordValues wordWritten
-returns-2 c = load-refused (c .before .before .before .before .before .before .before .before .before .before .before .before .before .before .args .values .now) (c .before .before .before .before .before .before .before .before .before .before .before .before .before .before .args .written .now) (wordTold (c .before .before .before .before .before .before .before .before .before .before .before .before .before .before .args .word)) (λ g. storedOf g (c .before .before .before .before .before .before .before .before .before .before .before .before .before .before .args .word)) _ _ _ (sym (c .before .before .before .before .before .before .before .before .before .lacks .ensures) ∙ c .before .before .before .before .before .before .before .before .if1 .left) (sym (c .before .before .before .before .load-word .ensures .0) ∙ ap told (c .before .before .answer .given .1)) (c .refused .ensures)
-
-same-length-5 : tie.Need-same-length-5
-same-length-5 c = search needs
-
-same-length-6 : tie.Need-same-length-6
-same-length-6 c = search needs
-
-returns-3 : tie.Need-returns-3
-unfolding wordCall wordValues wordWritten
-returns-3 c = load-done (c .before .before .before .before .before .before .before .before .before .before .before .before .before .before .before .before .before .before .before .args .values .now) (c .before .before .before .before .before .before .before .before .before .before .before .before .before .before .before .before .before .before .before .args .written .now) (wordTold (c .before .before .before .before .before .before .before .before .before .before .before .before .before .before .before .before .before .before .before .args .word)) (λ g. storedOf g (c .before .before .before .before .before .before .before .before .before .before .before .before .before .before .before .before .before .before .before .args .word)) _ _ _ _ (sym (c .before .before .before .before .before .before .before .before .before .before .before .before .before .before .lacks .ensures) ∙ c .before .before .before .before .before .before .before .before .before .before .before .before .before .if1 .left) (c .before .before .before .before .before .before .before .before .before .before .record-of .ensures) (c .before .before .before .before .before .before .before .before .before .load-word .ensures .1) (sym (c .before .before .before .before .before .before .before .before .before .load-word .ensures .0) ∙ ap told (c .before .before .before .before .before .before .before .enum-told .given .1)) (c .before .before .before .before .put-record .ensures .0) (c .before .before .before .before .put-record .ensures .1)
+unfolding wordValues wordWritten
+returns-2 c =
+    let args = c .before .before .before .before .before .before .before .before .before .before .before .before .before .before .args in
+    let judged = c .before .before .before .before .before .before .before .before .before .judge-word in
+    let put = c .before .before .before .before .put-word in
+    twofold-done (wordCall (args .values .now) (args .written .now) (args .word))
+    (args .values .now) (valueStored (args .values .now) (args .word)) (args .written .now) (flagStored (args .written .now) (args .word)) _ _
+    (sym (judged .ensures) ∙ ap told (c .before .before .before .before .before .before .before .enum-told .given .1)) (put .ensures .0) (put .ensures .1)
 
 pub vom-load-word-spec : {M : Type 1} → statement M
 vom-load-word-spec =
     tie.close
     (tie.spec
-    lacks-requires
+    judge-word-requires
+    enum-known-why
+    refused-requires
+    enum-told
+    put-word-requires
     same-length
     same-length-2
     returns
-    record-of-requires
-    load-word-requires
-    enum-known-answer
-    refused-requires
-    enum-told
-    put-record-requires
     same-length-3
     same-length-4
-    returns-2
-    same-length-5
-    same-length-6
-    returns-3)
+    returns-2)

@@ -1,0 +1,142 @@
+-- What a number for C says is what the call tells: a refusal's number is not 0 and its detail is below 2^32 wherever its row is the first
+-- to hold, so that the one is read above 2^32 and the other below; and a refusal leaves what was lent.
+use Prim.Native.Nat.{ℕ, _+_, _*_, _^_, _<_}
+use mathlib.Core.Path.{_≡_, refl, sym, _∙_, ap}
+use mathlib.Core.Bool.{Bool, true, false}
+use mathlib.Core.List.{List, [], _∷_, _++_}
+use native.Mathlib.Omega.{arith}
+use lib.Arith.{digits-div, digits-mod}
+use lib.Dec.{ltb}
+use lib.ListN.{length}
+use borrow.Author.Tests.{ltb-true, ltb-false, ne-eqb}
+use Rattle.buffers.specs.Pick.{pick}
+use Rattle.registers.specs.Table.{Told, given, refused, Row, row, judged, andThen, unlessRefused}
+use Rattle.registers.specs.Load.{leading, loadTable}
+use Rattle.registers.specs.Check.{unwritten, settingTable}
+use Rattle.registers.specs.Sound.{soundUnwritten, soundFault, soundTable}
+use Rattle.registers.specs.declared.record.Registers.{Registers}
+use Rattle.registers.proofs.Tables.{never}
+use Rattle.c_calls.specs.Code.{codeOf, withRoom}
+use Rattle.c_calls.specs.Record.{lacking, recordOf, recordTold, underRecord}
+use Rattle.claims.specs.Calls.{ByTable, Kept}
+use Rattle.claims.specs.CRows.{ofRecord, roomFor}
+use Rattle.claims.specs.CViews.{saidBy}
+use Rattle.claims.proofs.Tables.{by-table}
+
+-- The row that answers fits a number for C.
+abbrev Fitting : List Row → Type 0
+Fitting [] = Unit {0}
+Fitting (r ∷ rs) = (0 < r .number) × (r .when ≡ true → r .detail < 2 ^ 32) × (r .when ≡ false → Fitting rs)
+
+pub record Fits (rows : List Row) : Type 0 where
+  pub fits : Fitting rows
+
+pub no-rows : Fits []
+no-rows = record { fits = tt }
+
+-- A row with a detail, and one with detail 0.
+pub detailed : {n d : ℕ} {b : Bool} {rs : List Row} → 0 < n → (b ≡ true → d < 2 ^ 32) → (b ≡ false → Fits rs) → Fits (row n b d ∷ rs)
+detailed h l f = record { fits = (h, l, λ e. f e .fits) }
+
+pub plain : {n : ℕ} {b : Bool} {rs : List Row} → 0 < n → Fits rs → Fits (row n b 0 ∷ rs)
+plain h f = detailed h (λ e. omega arith) (λ e. f)
+
+fitting-after : (rs more : List Row) → Fitting rs → Fitting more → Fitting (rs ++ more)
+fitting-after [] more f g = g
+fitting-after (r ∷ rs) more f g = (f .0, f .1, λ e. fitting-after rs more (f .2 e) g)
+
+pub fits-after : {rs more : List Row} → Fits rs → Fits more → Fits (rs ++ more)
+fits-after {rs} {more} f g = record { fits = fitting-after rs more (f .fits) (g .fits) }
+
+said-refused : (n d : ℕ) → 0 < n → d < 2 ^ 32 → saidBy (n * 2 ^ 32 + d) ≡ refused n d
+said-refused n d h l = rw (ne-eqb (n * 2 ^ 32 + d) 0 (λ e. omega arith), digits-div n l, digits-mod n l)
+
+said : {A : Type 0} (rows : List Row) (a : A) → Fitting rows → saidBy (codeOf (judged rows a)) ≡ judged rows tt
+said [] a f = refl
+said (r ∷ rs) a f = go (r .when) (f .1) (λ e. said rs a (f .2 e))
+  where
+    go : (b : Bool) → (b ≡ true → r .detail < 2 ^ 32) → (b ≡ false → saidBy (codeOf (judged rs a)) ≡ judged rs tt)
+        → saidBy (codeOf (pick b (refused (r .number) (r .detail)) (judged rs a))) ≡ pick b (refused (r .number) (r .detail)) (judged rs tt)
+    go true l more = said-refused (r .number) (r .detail) (f .0) (l refl)
+    go false l more = more refl
+
+-- A call that answers the number of a table goes by that table.
+pub by-code : {A : Type 0} {t : Told A} {code : ℕ} (rows : List Row) (a : A) → Fits rows → t ≡ judged rows a → code ≡ codeOf t
+    → ByTable (saidBy code) rows tt
+by-code rows a f e c = by-table tt rows (ap saidBy (c ∙ ap codeOf e) ∙ said rows a (f .fits))
+
+-- What is left as it was where a call is refused.
+pub kept-code : {A B : Type 0} (t : Told A) {code : ℕ} {before after : B} (leaves : Told A → B) → code ≡ codeOf t → after ≡ leaves t
+    → ((n d : ℕ) → leaves (refused n d) ≡ before) → Kept (saidBy code) before after
+kept-code (given a) leaves c e was n d r = never (sym (ap saidBy c) ∙ r)
+kept-code (refused m k) leaves c e was n d r = e ∙ was m k
+
+-- The same under a record that may not be there.
+pub kept-under : {A B : Type 0} (t : Told Registers) (tells : Registers → Told A) (holds : Registers → B) (then : Registers → B) {code : ℕ} {before after : B}
+    → ((g : Registers) → holds g ≡ unlessRefused (tells g) before (then g)) → code ≡ codeOf (andThen t tells) → after ≡ underRecord t before holds
+    → Kept (saidBy code) before after
+kept-under (given g) tells holds then {before = before} law c e = kept-code (tells g) (λ u. unlessRefused u before (then g)) c (e ∙ law g) (λ n d. refl)
+kept-under (refused m k) tells holds then law c e = λ n d r. e
+
+-- A call of a record: 13, then the call's own table.
+pub record-told : {A : Type 0} (values written : List ℕ) (tells : Registers → Told A) (own : Registers → List Row) (a : Registers → A)
+    → ((g : Registers) → tells g ≡ judged (own g) (a g))
+    → andThen (recordTold values written) tells ≡ judged (ofRecord values written own) (a (recordOf values written))
+unfolding recordTold
+record-told values written tells own a e = go (lacking values written)
+  where
+    go : (b : Bool) → andThen (judged (row 13 b 0 ∷ []) (recordOf values written)) tells
+        ≡ pick b (refused 13 0) (judged (own (recordOf values written)) (a (recordOf values written)))
+    go true = refl
+    go false = e (recordOf values written)
+
+pub record-fits : (values written : List ℕ) (own : Registers → List Row) → ((g : Registers) → Fits (own g)) → Fits (ofRecord values written own)
+record-fits values written own f = plain (omega arith) (f (recordOf values written))
+
+pub record-code : {A : Type 0} {code : ℕ} (values written : List ℕ) (tells : Registers → Told A) (own : Registers → List Row) (a : Registers → A)
+    → ((g : Registers) → Fits (own g)) → ((g : Registers) → tells g ≡ judged (own g) (a g)) → code ≡ codeOf (andThen (recordTold values written) tells)
+    → ByTable (saidBy code) (ofRecord values written own) tt
+record-code values written tells own a f e c =
+    by-code (ofRecord values written own) (a (recordOf values written)) (record-fits values written own f) (record-told values written tells own a e) c
+
+-- 13 for a slice, after a table.
+pub room-told : {A B : Type 0} {t : Told A} (needed places : ℕ) (values : A → B) (rows : List Row) (a : A) → t ≡ judged rows a
+    → withRoom needed places (andThen t (λ b. given (values b))) ≡ judged (rows ++ roomFor needed places) (values a)
+room-told needed places values rows a e = ap (λ u. withRoom needed places (andThen u (λ b. given (values b)))) e ∙ go rows
+  where
+    go : (rs : List Row) → withRoom needed places (andThen (judged rs a) (λ b. given (values b))) ≡ judged (rs ++ roomFor needed places) (values a)
+    go [] = refl
+    go (r ∷ rs) = by (r .when) (go rs)
+      where
+        by : (b : Bool) → withRoom needed places (andThen (judged rs a) (λ c. given (values c))) ≡ judged (rs ++ roomFor needed places) (values a)
+            → withRoom needed places (andThen (pick b (refused (r .number) (r .detail)) (judged rs a)) (λ c. given (values c)))
+            ≡ pick b (refused (r .number) (r .detail)) (judged (rs ++ roomFor needed places) (values a))
+        by true q = refl
+        by false q = q
+
+pub room-fits : (needed places : ℕ) → Fits (roomFor needed places)
+room-fits needed places = plain (omega arith) no-rows
+
+pub room-code : {A B : Type 0} {t : Told A} {code : ℕ} (needed places : ℕ) (values : A → B) (rows : List Row) (a : A) → Fits rows → t ≡ judged rows a
+    → code ≡ codeOf (withRoom needed places (andThen t (λ b. given (values b)))) → ByTable (saidBy code) (rows ++ roomFor needed places) tt
+room-code needed places values rows a f e c =
+    by-code (rows ++ roomFor needed places) (values a) (fits-after f (room-fits needed places))
+    (room-told needed places values rows a e) c
+
+-- The tables with details.
+low-slot : (n : ℕ) → ltb n 64 ≡ true → 4 * n < 2 ^ 32
+low-slot n e = omega (arith, ltb-true n 64 e)
+
+pub setting-fits : (g : Registers) → Fits (settingTable g)
+setting-fits g =
+    detailed (omega arith) (low-slot (unwritten g))
+    (λ e. plain (omega arith) (plain (omega arith) (plain (omega arith) (plain (omega arith) (plain (omega arith) (plain (omega arith) no-rows))))))
+
+pub sound-fits : (g : Registers) → Fits (soundTable g)
+sound-fits g =
+    detailed (omega arith) (low-slot (soundUnwritten g)) (λ e. detailed (omega arith) (low-slot (soundFault g)) (λ h. no-rows))
+
+pub load-fits : (words : List ℕ) → Fits (loadTable words)
+load-fits words =
+    detailed (omega arith) (λ e. omega arith)
+    (λ e. detailed (omega arith) (λ h. omega (arith, ltb-false 1024 (length words) e, ltb-true (leading words) (length words) h)) (λ h. no-rows))

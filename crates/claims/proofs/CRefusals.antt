@@ -1,0 +1,286 @@
+-- Demand 1 for the calls for C: of each that can refuse, the numbers it can answer, exactly when, and in which order; refused, it leaves every
+-- lent memory as it was. What a call tells is put together of the tables of the calls below it, and the number that it answers says it.
+use Prim.Native.Nat.{ℕ, _*_, _%_}
+use mathlib.Core.Path.{_≡_, refl}
+use mathlib.Core.List.{List, [], _∷_, _++_}
+use native.Mathlib.Omega.{arith}
+use lib.ListN.{length}
+use lib.Seq.{sets}
+use Rattle.buffers.specs.Painted.{painted}
+use Rattle.registers.specs.Table.{Told, given, Row, judged, unlessRefused}
+use Rattle.registers.specs.Record.{wordTold}
+use Rattle.registers.specs.Load.{loadTable, loadTold}
+use Rattle.registers.specs.Setting.{settingOf}
+use Rattle.registers.specs.Check.{settingTable, checkTold}
+use Rattle.registers.specs.Sound.{soundTable, soundTold}
+use Rattle.registers.specs.declared.record.Registers.{Registers}
+use Rattle.colours.specs.Colour.{colourOf}
+use Rattle.frame.specs.Frame.{cells, frameCell, frameTold, frameHeld, rasterCell, rasterTold, rasterHeld}
+use Rattle.marks.specs.Marks.{marksOf, marksTold}
+use Rattle.stretch.specs.Stretch.{stretchOf, stretchTold}
+use Rattle.sound.specs.Values.{counterAfter}
+use Rattle.sound.specs.Play.{playTold, playedOf}
+use Rattle.sound.specs.Pair.{sidesOf}
+use Rattle.plates.specs.Plate.{sectionsOf, plateOf, plateLength}
+use Rattle.plates.specs.Read.{copyTold, copied}
+use Rattle.plates.specs.Write.{writeTold}
+use Rattle.runs.specs.Text.{textOf}
+use Rattle.c_calls.specs.Code.{storedBy, cellBy}
+use Rattle.c_calls.specs.Record.{recordOf, recordTold}
+use Rattle.c_calls.specs.Load.{valueStored, flagStored, valuesStored, flagsStored, loadCall, loadValues, loadWritten, wordCall, wordValues, wordWritten}
+use Rattle.c_calls.specs.Settings.{numbersOf, settingTold, checkCall, checkSoundCall}
+use Rattle.c_calls.specs.Pictures.{frameCall, frameLeaves, rasterCall, rasterLeaves, foundTold, wordsCall, marksCall, colourCall}
+use Rattle.c_calls.specs.Sounds.{soundCall, soundLeaves, counterLeaves, pairCall}
+use Rattle.c_calls.specs.Files.{nineOf, readCall}
+use Rattle.c_calls.specs.Texts.{textCall, textLeaves}
+use Rattle.c_calls.proofs.Pictured.{placeOf}
+use Rattle.claims.specs.Calls.{Every, numbers, ByTable, Kept}
+use Rattle.claims.specs.Rows.{wordRows, frameRows, rasterRows, marksRows, stretchRows, playRows, pairRows, readRows, copyRows, writeRows}
+use Rattle.claims.specs.CRows.{ofRecord, roomFor, textRows}
+use Rattle.claims.specs.CViews as c
+use Rattle.claims.specs.CViews.{LoadRun, CheckRun, CheckSoundRun, FrameRun, RasterRun, WordsRun, MarksRun, ColourRun}
+use Rattle.claims.specs.CViews.{SoundRun, PairRun, FileRun, WriteRun, TextRun}
+use Rattle.claims.proofs.Judged.{load-told, check-told, sound-told, frame-told, raster-told, marks-told, stretch-told}
+use Rattle.claims.proofs.Judged.{play-told, pair-told, read-told, copy-told, write-told}
+use Rattle.claims.proofs.CCodes.{no-rows, plain, fits-after, setting-fits, sound-fits, load-fits}
+use Rattle.claims.proofs.CCodes.{by-code, kept-code, kept-under, record-told, record-fits, record-code, room-code}
+
+-- The numbers of each table, in its order.
+module _ (values written : List ℕ) where
+  pub vom-load-numbers : (words : List ℕ) → numbers (ofRecord values written λ g. loadTable words) ≡ 13 ∷ 1 ∷ 2 ∷ []
+  vom-load-numbers words = refl
+
+  pub vom-load-word-numbers : (word : ℕ) → numbers (ofRecord values written λ g. wordRows word) ≡ 13 ∷ 2 ∷ []
+  vom-load-word-numbers word = refl
+
+  pub vom-check-numbers : (places : ℕ) → numbers (ofRecord values written settingTable ++ roomFor 21 places) ≡ 13 ∷ 3 ∷ 4 ∷ 5 ∷ 6 ∷ 7 ∷ 8 ∷ 9 ∷ 13 ∷ []
+  vom-check-numbers places = refl
+
+  pub vom-check-sound-numbers : numbers (ofRecord values written soundTable) ≡ 13 ∷ 3 ∷ 10 ∷ []
+  vom-check-sound-numbers = refl
+
+  module _ (video cursor : List ℕ) where
+    pub vom-frame-numbers : (places : ℕ)
+        → numbers (ofRecord values written λ g. frameRows g video cursor places) ≡ 13 ∷ 3 ∷ 4 ∷ 5 ∷ 6 ∷ 7 ∷ 8 ∷ 9 ∷ 11 ∷ 13 ∷ []
+    vom-frame-numbers places = refl
+
+    pub vom-raster-numbers : (y places : ℕ)
+        → numbers (ofRecord values written λ g. rasterRows g video cursor y places) ≡ 13 ∷ 3 ∷ 4 ∷ 5 ∷ 6 ∷ 7 ∷ 8 ∷ 9 ∷ 11 ∷ 12 ∷ 13 ∷ []
+    vom-raster-numbers y places = refl
+
+    pub vom-marks-numbers : numbers (ofRecord values written λ g. marksRows g video cursor) ≡ 13 ∷ 3 ∷ 4 ∷ 5 ∷ 6 ∷ 7 ∷ 8 ∷ 9 ∷ 11 ∷ []
+    vom-marks-numbers = refl
+
+  pub vom-raster-words-numbers : (video : List ℕ) (y places : ℕ)
+      → numbers ((ofRecord values written λ g. stretchRows g video y) ++ roomFor 2 places) ≡ 13 ∷ 3 ∷ 4 ∷ 5 ∷ 6 ∷ 7 ∷ 8 ∷ 9 ∷ 11 ∷ 12 ∷ 13 ∷ []
+  vom-raster-words-numbers video y places = refl
+
+  pub vom-colour-numbers : numbers (ofRecord values written λ g. []) ≡ 13 ∷ []
+  vom-colour-numbers = refl
+
+  pub vom-sound-numbers : (words places : ℕ) → numbers (ofRecord values written λ g. playRows g words places) ≡ 13 ∷ 3 ∷ 10 ∷ 13 ∷ []
+  vom-sound-numbers words places = refl
+
+pub vom-sound-pair-numbers : (stereo places : ℕ) → numbers (pairRows stereo ++ roomFor 2 places) ≡ 10 ∷ 13 ∷ []
+vom-sound-pair-numbers stereo places = refl
+
+pub vom-read-numbers : (file : List ℕ) (places : ℕ) → numbers (readRows file ++ roomFor 9 places) ≡ 14 ∷ 13 ∷ []
+vom-read-numbers file places = refl
+
+pub vom-text-numbers : (file : List ℕ) (places : ℕ) → numbers (textRows file places) ≡ 13 ∷ []
+vom-text-numbers file places = refl
+
+-- Loading.
+pub vom-load-refuses : Every c.load λ run.
+    ByTable (run .answer) (ofRecord (run .values) (run .written) λ g. loadTable (run .words)) tt
+    × Kept (run .answer) (run .values) (run .values-after) × Kept (run .answer) (run .written) (run .written-after)
+unfolding loadCall loadValues loadWritten
+vom-load-refuses κs a x s p =
+    let run : LoadRun (List ℕ) = c.load .seen κs a x s in
+    let t = loadCall (run .values) (run .written) (run .words) in (
+      record-code (run .values) (run .written) (λ g. loadTold (run .words)) (λ g. loadTable (run .words)) (λ g. tt)
+          (λ g. load-fits (run .words)) (λ g. load-told (run .words)) (p .0),
+      kept-code t (λ u. unlessRefused u (run .values) (valuesStored (run .values) (run .words))) (p .0) (p .1) (λ n d. refl),
+      kept-code t (λ u. unlessRefused u (run .written) (flagsStored (run .written) (run .words))) (p .0) (p .2) (λ n d. refl),
+    )
+
+pub vom-load-word-refuses : Every c.loadWord λ run.
+    ByTable (run .answer) (ofRecord (run .values) (run .written) λ g. wordRows (run .words)) tt
+    × Kept (run .answer) (run .values) (run .values-after) × Kept (run .answer) (run .written) (run .written-after)
+unfolding wordCall wordValues wordWritten
+vom-load-word-refuses κs a x s p =
+    let run : LoadRun ℕ = c.loadWord .seen κs a x s in
+    let t = wordCall (run .values) (run .written) (run .words) in (
+      record-code (run .values) (run .written) (λ g. wordTold (run .words)) (λ g. wordRows (run .words)) (λ g. tt)
+          (λ g. plain (omega arith) no-rows) (λ g. refl) (p .0),
+      kept-code t (λ u. unlessRefused u (run .values) (valueStored (run .values) (run .words))) (p .0) (p .1) (λ n d. refl),
+      kept-code t (λ u. unlessRefused u (run .written) (flagStored (run .written) (run .words))) (p .0) (p .2) (λ n d. refl),
+    )
+
+-- Judging.
+pub vom-check-refuses : Every c.check λ run.
+    ByTable (run .answer) (ofRecord (run .values) (run .written) settingTable ++ roomFor 21 (length (run .before))) tt
+    × Kept (run .answer) (run .before) (run .after)
+unfolding checkCall settingTold
+vom-check-refuses κs a x s p =
+    let run : CheckRun = c.check .seen κs a x s in (
+      room-code 21 (length (run .before)) numbersOf (ofRecord (run .values) (run .written) settingTable) (settingOf (recordOf (run .values) (run .written)))
+          (record-fits (run .values) (run .written) settingTable setting-fits)
+          (record-told (run .values) (run .written) checkTold settingTable settingOf check-told) (p .0),
+      kept-code (checkCall (run .values) (run .written) (length (run .before))) (λ u. storedBy u (run .before)) (p .0) (p .1) (λ n d. refl),
+    )
+
+pub vom-check-sound-refuses : Every c.checkSound λ run. ByTable (run .answer) (ofRecord (run .values) (run .written) soundTable) tt
+unfolding checkSoundCall
+vom-check-sound-refuses κs a x s p =
+    let run : CheckSoundRun = c.checkSound .seen κs a x s in
+    record-code (run .values) (run .written) soundTold soundTable (λ g. tt) sound-fits sound-told p
+
+-- Pictures.
+pub vom-frame-refuses : Every c.frame λ run.
+    ByTable (run .answer) (ofRecord (run .values) (run .written) λ g. frameRows g (run .video) (run .cursor) (length (run .before))) tt
+    × Kept (run .answer) (run .before) (run .after)
+unfolding frameCall frameLeaves frameHeld
+vom-frame-refuses κs a x s p =
+    let run : FrameRun = c.frame .seen κs a x s in
+    let tells : Registers → Told (Unit {0}) = λ g. frameTold g (run .video) (run .cursor) (length (run .before)) in (
+      record-code (run .values) (run .written) tells (λ g. frameRows g (run .video) (run .cursor) (length (run .before))) (λ g. tt)
+          (λ g. fits-after (setting-fits g) (plain (omega arith) (plain (omega arith) no-rows)))
+          (λ g. frame-told g (run .video) (run .cursor) (length (run .before))) (p .0),
+      kept-under (recordTold (run .values) (run .written)) tells (λ g. frameHeld g (run .video) (run .cursor) (run .before))
+          (λ g. painted (run .before) 0 (cells (settingOf g)) (frameCell g (settingOf g) (run .video) (run .cursor))) (λ g. refl) (p .0) (p .1),
+    )
+
+pub vom-raster-refuses : Every c.raster λ run.
+    ByTable (run .answer) (ofRecord (run .values) (run .written) λ g. rasterRows g (run .video) (run .cursor) (run .raster) (length (run .before))) tt
+    × Kept (run .answer) (run .before) (run .after)
+unfolding rasterCall rasterLeaves rasterHeld
+vom-raster-refuses κs a x s p =
+    let run : RasterRun = c.raster .seen κs a x s in
+    let tells : Registers → Told (Unit {0}) = λ g. rasterTold g (run .video) (run .cursor) (run .raster) (length (run .before)) in (
+      record-code (run .values) (run .written) tells (λ g. rasterRows g (run .video) (run .cursor) (run .raster) (length (run .before))) (λ g. tt)
+          (λ g. fits-after (setting-fits g) (plain (omega arith) (plain (omega arith) (plain (omega arith) no-rows))))
+          (λ g. raster-told g (run .video) (run .cursor) (run .raster) (length (run .before))) (p .0),
+      kept-under (recordTold (run .values) (run .written)) tells (λ g. rasterHeld g (run .video) (run .cursor) (run .raster) (run .before))
+          (λ g. painted (run .before) 0 (settingOf g .n .0) (rasterCell g (settingOf g) (run .video) (run .cursor) (run .raster))) (λ g. refl) (p .0) (p .1),
+    )
+
+pub vom-raster-words-refuses : Every c.rasterWords λ run.
+    ByTable (run .answer)
+    ((ofRecord (run .values) (run .written) λ g. stretchRows g (run .video) (run .raster)) ++ roomFor 2 (length (run .before))) tt
+    × Kept (run .answer) (run .before) (run .after)
+unfolding wordsCall foundTold
+vom-raster-words-refuses κs a x s p =
+    let run : WordsRun = c.rasterWords .seen κs a x s in
+    let own : Registers → List Row = λ g. stretchRows g (run .video) (run .raster) in (
+      room-code 2 (length (run .before)) placeOf (ofRecord (run .values) (run .written) own)
+          (stretchOf (settingOf (recordOf (run .values) (run .written))) (run .raster))
+          (record-fits (run .values) (run .written) own
+          (λ g. fits-after (setting-fits g) (plain (omega arith) (plain (omega arith) no-rows))))
+          (record-told (run .values) (run .written) (λ g. stretchTold g (run .video) (run .raster)) own (λ g. stretchOf (settingOf g) (run .raster))
+          (λ g. stretch-told g (run .video) (run .raster))) (p .0),
+      kept-code (wordsCall (run .values) (run .written) (run .video) (run .raster) (length (run .before))) (λ u. storedBy u (run .before))
+          (p .0) (p .1) (λ n d. refl),
+    )
+
+pub vom-marks-refuses : Every c.marks λ run.
+    ByTable (run .answer) (ofRecord (run .values) (run .written) λ g. marksRows g (run .video) (run .cursor)) tt
+    × Kept (run .answer) (run .before) (run .after)
+unfolding marksCall
+vom-marks-refuses κs a x s p =
+    let run : MarksRun = c.marks .seen κs a x s in (
+      record-code (run .values) (run .written) (λ g. marksTold g (run .video) (run .cursor) (run .threshold))
+          (λ g. marksRows g (run .video) (run .cursor)) (λ g. marksOf g (settingOf g) (run .video) (run .cursor) (run .threshold))
+          (λ g. fits-after (setting-fits g) (plain (omega arith) no-rows))
+          (λ g. marks-told g (run .video) (run .cursor) (run .threshold)) (p .0),
+      kept-code (marksCall (run .values) (run .written) (run .video) (run .cursor) (run .threshold)) (λ u. cellBy u (run .before))
+          (p .0) (p .1) (λ n d. refl),
+    )
+
+pub vom-colour-refuses : Every c.colour λ run.
+    ByTable (run .answer) (ofRecord (run .values) (run .written) λ g. []) tt × Kept (run .answer) (run .before) (run .after)
+unfolding colourCall
+vom-colour-refuses κs a x s p =
+    let run : ColourRun = c.colour .seen κs a x s in (
+      record-code (run .values) (run .written) (λ g. given (colourOf g (run .depth) (run .pixel))) (λ g. [])
+          (λ g. colourOf g (run .depth) (run .pixel)) (λ g. no-rows) (λ g. refl) (p .0),
+      kept-code (colourCall (run .values) (run .written) (run .depth) (run .pixel)) (λ u. cellBy u (run .before)) (p .0) (p .1) (λ n d. refl),
+    )
+
+-- Sound.
+pub vom-sound-refuses : Every c.sound λ run.
+    ByTable (run .answer) (ofRecord (run .values) (run .written) λ g. playRows g (length (run .words)) (length (run .before))) tt
+    × Kept (run .answer) (run .counter) (run .counted) × Kept (run .answer) (run .before) (run .after)
+unfolding soundCall soundLeaves counterLeaves
+vom-sound-refuses κs a x s p =
+    let run : SoundRun = c.sound .seen κs a x s in
+    let t = soundCall (run .values) (run .written) (length (run .words)) (length (run .before)) in (
+      record-code (run .values) (run .written) (λ g. playTold g (length (run .words)) (length (run .before)))
+          (λ g. playRows g (length (run .words)) (length (run .before))) (λ g. tt)
+          (λ g. fits-after (sound-fits g) (plain (omega arith) no-rows))
+          (λ g. play-told g (length (run .words)) (length (run .before))) (p .0),
+      kept-code t (λ u. unlessRefused u (run .counter) (counterAfter (run .counter) (4 * length (run .words)))) (p .0) (p .1) (λ n d. refl),
+      kept-code t (λ u. unlessRefused u (run .before) (sets (run .before) 0 (playedOf (recordOf (run .values) (run .written)) (run .counter) (run .words))))
+          (p .0) (p .2) (λ n d. refl),
+    )
+
+pub vom-sound-pair-refuses : Every c.soundPair λ run.
+    ByTable (run .answer) (pairRows (run .stereo) ++ roomFor 2 (length (run .before))) tt × Kept (run .answer) (run .before) (run .after)
+unfolding pairCall
+vom-sound-pair-refuses κs a x s p =
+    let run : PairRun = c.soundPair .seen κs a x s in (
+      room-code 2 (length (run .before)) (λ sides. sides .left ∷ sides .right ∷ []) (pairRows (run .stereo)) (sidesOf (run .byte) (run .stereo % 8))
+          (plain (omega arith) no-rows) (pair-told (run .byte) (run .stereo)) (p .0),
+      kept-code (pairCall (run .byte) (run .stereo) (length (run .before))) (λ u. storedBy u (run .before)) (p .0) (p .1) (λ n d. refl),
+    )
+
+-- Plate files.
+pub vom-read-refuses : Every c.read λ run.
+    ByTable (run .answer) (readRows (run .file) ++ roomFor 9 (length (run .before))) tt × Kept (run .answer) (run .before) (run .after)
+unfolding readCall
+vom-read-refuses κs a x s p =
+    let run : FileRun = c.read .seen κs a x s in (
+      room-code 9 (length (run .before)) nineOf (readRows (run .file)) (sectionsOf (run .file)) (plain (omega arith) no-rows) (read-told (run .file)) (p .0),
+      kept-code (readCall (run .file) (length (run .before))) (λ u. storedBy u (run .before)) (p .0) (p .1) (λ n d. refl),
+    )
+
+pub vom-copy-refuses : Every c.copy λ run.
+    ByTable (run .answer) (copyRows (run .file) (length (run .before))) tt × Kept (run .answer) (run .before) (run .after)
+vom-copy-refuses κs a x s p =
+    let run : FileRun = c.copy .seen κs a x s in (
+      by-code (copyRows (run .file) (length (run .before))) tt (plain (omega arith) (plain (omega arith) no-rows))
+          (copy-told (run .file) (length (run .before))) (p .0),
+      kept-code (copyTold (run .file) (length (run .before))) (λ u. unlessRefused u (run .before) (sets (run .before) 0 (copied (run .file))))
+          (p .0) (p .1) (λ n d. refl),
+    )
+
+pub vom-write-refuses : Every c.write λ run.
+    ByTable (run .answer) (writeRows (run .registers) (run .video) (run .cursor) (run .sound) (length (run .before))) tt
+    × Kept (run .answer) (run .before) (run .after) × Kept (run .answer) (run .size) (run .size-after)
+vom-write-refuses κs a x s p =
+    let run : WriteRun = c.write .seen κs a x s in
+    let t = writeTold (run .registers) (run .video) (run .cursor) (run .sound) (length (run .before)) in (
+      by-code (writeRows (run .registers) (run .video) (run .cursor) (run .sound) (length (run .before)))
+          (plateLength (run .registers) (run .video) (run .cursor) (run .sound)) (plain (omega arith) (plain (omega arith) no-rows))
+          (write-told (run .registers) (run .video) (run .cursor) (run .sound) (length (run .before))) (p .0),
+      kept-code t (λ u. unlessRefused u (run .before) (sets (run .before) 0 (plateOf (run .registers) (run .video) (run .cursor) (run .sound))))
+          (p .0) (p .1) (λ n d. refl),
+      kept-code t (λ u. cellBy u (run .size)) (p .0) (p .2) (λ n d. refl),
+    )
+
+text-told : (file : List ℕ) (places : ℕ) → textCall file places ≡ judged (textRows file places) (length (textOf file))
+unfolding textCall
+text-told file places = refl
+
+pub vom-text-refuses : Every c.text λ run.
+    ByTable (run .answer) (textRows (run .file) (length (run .before))) tt
+    × Kept (run .answer) (run .before) (run .after) × Kept (run .answer) (run .size) (run .size-after)
+unfolding textLeaves
+vom-text-refuses κs a x s p =
+    let run : TextRun = c.text .seen κs a x s in
+    let t = textCall (run .file) (length (run .before)) in (
+      by-code (textRows (run .file) (length (run .before))) (length (textOf (run .file))) (plain (omega arith) no-rows)
+          (text-told (run .file) (length (run .before))) (p .0),
+      kept-code t (λ u. unlessRefused u (run .before) (sets (run .before) 0 (textOf (run .file)))) (p .0) (p .1) (λ n d. refl),
+      kept-code t (λ u. cellBy u (run .size)) (p .0) (p .2) (λ n d. refl),
+    )

@@ -1,0 +1,38 @@
+-- What a frame call is asked, when it is asked rightly, and what it then leaves; and of one raster.
+use Prim.Native.Nat.{ℕ, _/_, _%_, _<_, _≤_}
+use mathlib.Core.Path.{_≡_}
+use mathlib.Core.List.{List}
+use lib.ListN.{length, getD}
+use Rattle.registers.specs.Table.{given}
+use Rattle.registers.specs.Setting.{settingOf, videoWords, cursorWords}
+use Rattle.registers.specs.Check.{checkTold}
+use Rattle.registers.specs.declared.record.Registers.{Registers}
+use Rattle.frame.specs.Cell.{cell}
+use Rattle.frame.specs.Frame.{cells}
+use Rattle.claims.specs.Views.{FrameRun}
+
+-- The call was asked this.
+pub record On (g : Registers) (video cursor : List ℕ) (run : FrameRun) : Type 0 where
+  pub registers-are : run .registers ≡ g
+  pub video-is : run .video ≡ video
+  pub cursor-is : run .cursor ≡ cursor
+
+-- An accepted setting, lists of the sizes that it asks for, and room for N·V cells.
+pub record Right (g : Registers) (video cursor before : List ℕ) : Type 0 where
+  pub accepted : checkTold g ≡ given (settingOf g)
+  pub video-words : length video ≡ videoWords (settingOf g)
+  pub cursor-words : length cursor ≡ cursorWords (settingOf g)
+  pub room : cells (settingOf g) ≤ length before
+
+-- What lent memory holds after a frame call that is not refused.
+pub record Framed (g : Registers) (video cursor before after : List ℕ) : Type 0 where
+  pub long : length after ≡ length before
+  pub each : (k : ℕ) → k < cells (settingOf g)
+      → getD after k 0 ≡ cell g (settingOf g) video cursor (k % settingOf g .n .0) (k / settingOf g .n .0)
+  pub beyond : (k : ℕ) → cells (settingOf g) ≤ k → getD after k 0 ≡ getD before k 0
+
+-- And after a raster call.
+pub record Rastered (g : Registers) (video cursor : List ℕ) (y : ℕ) (before after : List ℕ) : Type 0 where
+  pub long : length after ≡ length before
+  pub each : (x : ℕ) → x < settingOf g .n .0 → getD after x 0 ≡ cell g (settingOf g) video cursor x y
+  pub beyond : (x : ℕ) → settingOf g .n .0 ≤ x → getD after x 0 ≡ getD before x 0

@@ -1,0 +1,263 @@
+-- What is seen of a run of each public call that claims speak of: its arguments, what it tells, lent memory before and after, by name.
+use Prim.Native.Nat.{ℕ}
+use mathlib.Core.List.{List}
+use lib.IntN.{ℤ}
+use denote.Ref.{ptr, now}
+use Rattle.registers.specs.Table.{Told, told}
+use Rattle.registers.specs.Check.{checkSays}
+use Rattle.registers.specs.declared.record.Registers.{Registers}
+use Rattle.registers.specs.declared.setting.Setting.{Setting}
+use Rattle.registers.proofs.record.Registers.load_word.Kinds as load-word-kinds
+use Rattle.registers.proofs.record.Registers.load_word.Reads as load-word-reads
+use Rattle.registers.proofs.record.Registers.load.Kinds as load-kinds
+use Rattle.registers.proofs.record.Registers.load.Reads as load-reads
+use Rattle.registers.proofs.record.Registers.check.Kinds as check-kinds
+use Rattle.registers.proofs.record.Registers.check.Reads as check-reads
+use Rattle.registers.proofs.record.Registers.check_sound.Kinds as check-sound-kinds
+use Rattle.registers.proofs.record.Registers.check_sound.Reads as check-sound-reads
+use Rattle.frame.proofs.frame.Kinds as frame-kinds
+use Rattle.frame.proofs.frame.Reads as frame-reads
+use Rattle.frame.proofs.raster.Kinds as raster-kinds
+use Rattle.frame.proofs.raster.Reads as raster-reads
+use Rattle.marks.specs.Marks.{marksSays}
+use Rattle.marks.proofs.marks.Kinds as marks-kinds
+use Rattle.marks.proofs.marks.Reads as marks-reads
+use Rattle.stretch.specs.Stretch.{foundSays}
+use Rattle.stretch.specs.declared.found.Stretch.{Stretch}
+use Rattle.stretch.proofs.found.find.Kinds as find-kinds
+use Rattle.stretch.proofs.found.find.Reads as find-reads
+use Rattle.stretch.proofs.raster_words.Kinds as words-kinds
+use Rattle.stretch.proofs.raster_words.Reads as words-reads
+use Rattle.stretch.proofs.raster_words_answer.Kinds as answer-kinds
+use Rattle.stretch.proofs.raster_words_answer.Reads as answer-reads
+use Rattle.sound.specs.Pair.{toldPair}
+use Rattle.sound.specs.declared.Sides.{Sides}
+use Rattle.sound.proofs.pair.Kinds as pair-kinds
+use Rattle.sound.proofs.pair.Reads as pair-reads
+use Rattle.sound.proofs.play.Kinds as play-kinds
+use Rattle.sound.proofs.play.Reads as play-reads
+use Rattle.plates.specs.Read.{toldRead}
+use Rattle.plates.specs.Write.{toldWritten}
+use Rattle.plates.specs.declared.Sections.{Sections}
+use Rattle.plates.proofs.read.Kinds as read-kinds
+use Rattle.plates.proofs.read.Reads as read-reads
+use Rattle.plates.proofs.copy_out.Kinds as copy-kinds
+use Rattle.plates.proofs.copy_out.Reads as copy-reads
+use Rattle.plates.proofs.write.Kinds as write-kinds
+use Rattle.plates.proofs.write.Reads as write-reads
+use Rattle.runs.proofs.text.line.Kinds as line-kinds
+use Rattle.runs.proofs.text.line.Reads as line-reads
+use Rattle.runs.proofs.strips.strip.Kinds as strip-kinds
+use Rattle.runs.proofs.strips.strip.Reads as strip-reads
+use Rattle.runs.proofs.blocks.block.Kinds as block-kinds
+use Rattle.runs.proofs.blocks.block.Reads as block-reads
+use Rattle.runs.proofs.blocks.refusal.Kinds as refusal-kinds
+use Rattle.runs.proofs.blocks.refusal.Reads as refusal-reads
+use Rattle.claims.specs.Calls.{Call, call}
+
+-- Loading one word, or a list.
+pub record LoadRun (W : Type 0) : Type 0 where
+  pub registers : Registers
+  pub words : W
+  pub answer : Told (Unit {0})
+  pub loaded : Registers
+
+abbrev pub loadWord : Call
+loadWord = call 0 load-word-kinds.ps load-word-kinds.r load-word-reads.Post (LoadRun ℕ)
+    λ κs a x s. record { registers = a .0; words = a .1 .0; answer = told (x .answer); loaded = x .registers }
+
+abbrev pub load : Call
+load = call 1 load-kinds.ps load-kinds.r load-reads.Post (LoadRun (List ℕ))
+    λ κs a x s. record { registers = a .0; words = now (a .1 .0); answer = told (x .answer); loaded = x .registers }
+
+-- Judging a record, for a picture or for sound.
+pub record CheckRun (A : Type 0) : Type 0 where
+  pub registers : Registers
+  pub answer : Told A
+
+abbrev pub check : Call
+check = call 0 check-kinds.ps check-kinds.r check-reads.Post (CheckRun Setting) λ κs a x s. record { registers = a .0; answer = checkSays x }
+
+abbrev pub checkSound : Call
+checkSound = call 0 check-sound-kinds.ps check-sound-kinds.r check-sound-reads.Post (CheckRun (Unit {0}))
+    λ κs a x s. record { registers = a .0; answer = told x }
+
+-- The frame, one raster of it, and its mark count.
+pub record FrameRun : Type 0 where
+  pub registers : Registers
+  pub video : List ℕ
+  pub cursor : List ℕ
+  pub answer : Told (Unit {0})
+  pub before : List ℕ
+  pub after : List ℕ
+
+abbrev pub frame : Call
+frame = call 3 frame-kinds.ps frame-kinds.r frame-reads.Post FrameRun
+    λ κs a x s. record {
+      registers = a .0;
+      video = now (a .1 .0);
+      cursor = now (a .1 .1 .0);
+      answer = told x;
+      before = now (a .1 .1 .1 .0);
+      after = now (s .1 .1 .1 .0);
+    }
+
+pub record RasterRun : Type 0 where
+  pub registers : Registers
+  pub video : List ℕ
+  pub cursor : List ℕ
+  pub raster : ℕ
+  pub answer : Told (Unit {0})
+  pub before : List ℕ
+  pub after : List ℕ
+
+abbrev pub raster : Call
+raster = call 3 raster-kinds.ps raster-kinds.r raster-reads.Post RasterRun
+    λ κs a x s. record {
+      registers = a .0;
+      video = now (a .1 .0);
+      cursor = now (a .1 .1 .0);
+      raster = a .1 .1 .1 .0 .0;
+      answer = told x;
+      before = now (a .1 .1 .1 .1 .0);
+      after = now (s .1 .1 .1 .1 .0);
+    }
+
+pub record MarksRun : Type 0 where
+  pub registers : Registers
+  pub video : List ℕ
+  pub cursor : List ℕ
+  pub threshold : ℕ
+  pub answer : Told ℕ
+
+abbrev pub marks : Call
+marks = call 2 marks-kinds.ps marks-kinds.r marks-reads.Post MarksRun
+    λ κs a x s. record { registers = a .0; video = now (a .1 .0); cursor = now (a .1 .1 .0); threshold = a .1 .1 .1 .0; answer = marksSays x }
+
+-- A raster's words: where they stand, and the refusal or none.
+pub record StretchRun (A : Type 0) : Type 0 where
+  pub registers : Registers
+  pub video : List ℕ
+  pub raster : ℕ
+  pub answer : Told A
+
+abbrev pub find : Call
+find = call 1 find-kinds.ps find-kinds.r find-reads.Post (StretchRun Stretch)
+    λ κs a x s. record { registers = a .0; video = now (a .1 .0); raster = a .1 .1 .0 .0; answer = foundSays x }
+
+abbrev pub rasterWordsAnswer : Call
+rasterWordsAnswer = call 1 answer-kinds.ps answer-kinds.r answer-reads.Post (StretchRun (Unit {0}))
+    λ κs a x s. record { registers = a .0; video = now (a .1 .0); raster = a .1 .1 .0 .0; answer = told x }
+
+-- The words themselves. A list's place is its memory and the bytes before it there.
+pub record WordsRun : Type 0 where
+  pub registers : Registers
+  pub video : List ℕ
+  pub video-place : ℕ × ℕ
+  pub raster : ℕ
+  pub words : List ℕ
+  pub words-place : ℕ × ℕ
+
+abbrev pub rasterWords : Call
+rasterWords = call 1 words-kinds.ps words-kinds.r words-reads.Post WordsRun
+    λ κs a x s. record {
+      registers = a .0;
+      video = now (a .1 .0);
+      video-place = ptr (a .1 .0);
+      raster = a .1 .1 .0 .0;
+      words = now x;
+      words-place = ptr x;
+    }
+
+-- Sound: words played, and one byte.
+pub record PlayRun : Type 0 where
+  pub registers : Registers
+  pub words : List ℕ
+  pub counter : ℕ
+  pub answer : Told (Unit {0})
+  pub counted : ℕ
+  pub before : List ℤ
+  pub after : List ℤ
+
+abbrev pub play : Call
+play = call 2 play-kinds.ps play-kinds.r play-reads.Post PlayRun
+    λ κs a x s. record {
+      registers = a .0;
+      words = now (a .1 .0);
+      counter = a .1 .1 .0;
+      answer = told (x .answer);
+      counted = x .counter;
+      before = now (a .1 .1 .1 .0);
+      after = now (s .1 .1 .1 .0);
+    }
+
+pub record PairRun : Type 0 where
+  pub byte : ℕ
+  pub stereo : ℕ
+  pub answer : Told Sides
+
+abbrev pub pair : Call
+pair = call 0 pair-kinds.ps pair-kinds.r pair-reads.Post PairRun λ κs a x s. record { byte = a .0; stereo = a .1 .0; answer = toldPair x }
+
+-- Plate files: read, copied out, written.
+pub record ReadRun : Type 0 where
+  pub file : List ℕ
+  pub answer : Told Sections
+
+abbrev pub read : Call
+read = call 1 read-kinds.ps read-kinds.r read-reads.Post ReadRun λ κs a x s. record { file = now (a .0); answer = toldRead x }
+
+pub record CopyRun : Type 0 where
+  pub file : List ℕ
+  pub answer : Told (Unit {0})
+  pub before : List ℕ
+  pub after : List ℕ
+
+abbrev pub copyOut : Call
+copyOut = call 2 copy-kinds.ps copy-kinds.r copy-reads.Post CopyRun
+    λ κs a x s. record { file = now (a .0); answer = told x; before = now (a .1 .0); after = now (s .1 .0) }
+
+pub record WriteRun : Type 0 where
+  pub registers : List ℕ
+  pub video : List ℕ
+  pub cursor : List ℕ
+  pub sound : List ℕ
+  pub answer : Told ℕ
+  pub before : List ℕ
+  pub after : List ℕ
+
+abbrev pub write : Call
+write = call 5 write-kinds.ps write-kinds.r write-reads.Post WriteRun
+    λ κs a x s. record {
+      registers = now (a .0);
+      video = now (a .1 .0);
+      cursor = now (a .1 .1 .0);
+      sound = now (a .1 .1 .1 .0);
+      answer = toldWritten x;
+      before = now (a .1 .1 .1 .1 .0);
+      after = now (s .1 .1 .1 .1 .0);
+    }
+
+-- What the programs write of a plate: line, strip or block k, and how many bytes it has; the one line that refuses its sound.
+pub record PieceRun : Type 0 where
+  pub file : List ℕ
+  pub index : ℕ
+  pub bytes : ℕ
+  pub before : List ℕ
+  pub after : List ℕ
+
+abbrev pub line : Call
+line = call 2 line-kinds.ps line-kinds.r line-reads.Post PieceRun
+    λ κs a x s. record { file = now (a .0); index = a .1 .0; bytes = x; before = now (a .1 .1 .0); after = now (s .1 .1 .0) }
+
+abbrev pub strip : Call
+strip = call 2 strip-kinds.ps strip-kinds.r strip-reads.Post PieceRun
+    λ κs a x s. record { file = now (a .0); index = a .1 .0; bytes = x; before = now (a .1 .1 .0); after = now (s .1 .1 .0) }
+
+abbrev pub block : Call
+block = call 2 block-kinds.ps block-kinds.r block-reads.Post PieceRun
+    λ κs a x s. record { file = now (a .0); index = a .1 .0; bytes = x; before = now (a .1 .1 .0); after = now (s .1 .1 .0) }
+
+abbrev pub soundRefusal : Call
+soundRefusal = call 2 refusal-kinds.ps refusal-kinds.r refusal-reads.Post PieceRun
+    λ κs a x s. record { file = now (a .0); index = 0; bytes = x; before = now (a .1 .0); after = now (s .1 .0) }

@@ -1,0 +1,110 @@
+"""How the tools read the crates' text: functions of Rattle with their clauses, and declarations of antt. Comments count for nothing."""
+import re, sys
+from typing import NamedTuple
+
+sys.dont_write_bytecode = True
+PAIRS = {"(": ")", "[": "]", "{": "}"}
+
+
+class Function(NamedTuple):
+    owner: str  # the type that it is a method of, or nothing
+    public: bool  # `pub`, as it says of itself
+    exported: bool  # to C
+    name: str
+    parameters: list  # the types, in order; of `self` as it is written
+    returns: str
+    clauses: list  # kind and text, in order
+    header: str  # from its name up to its body, in one line
+
+
+def rattle(text):
+    return re.sub(r"//[^\n]*", "", text)
+
+
+def antt(text):
+    return re.sub(r"(?<!\S)--[^\n]*", "", re.sub(r"\{-.*?-\}", "", text, flags=re.S))
+
+
+def line(text):
+    """The text in one line, each gap one space."""
+    return " ".join(text.split())
+
+
+def closed(text, at):
+    """Where the bracket at a place ends: the place after its other half."""
+    open_, close, depth = text[at], PAIRS[text[at]], 0
+    for end in range(at, len(text)):
+        depth += (text[end] == open_) - (text[end] == close)
+        if depth == 0:
+            return end + 1
+    raise ValueError("a bracket is left open: " + text[at:at + 60])
+
+
+def listed(text):
+    """What stands between the commas outside all brackets."""
+    parts, depth = [""], 0
+    for letter in text:
+        depth += (letter in PAIRS) - (letter in PAIRS.values())
+        if letter == "," and depth == 0:
+            parts.append("")
+        else:
+            parts[-1] += letter
+    return [line(part) for part in parts if part.strip()]
+
+
+def functions(text):
+    """Each function of a Rattle file."""
+    text = rattle(text)
+    owners = [(m.start(), closed(text, m.end() - 1), m.group(1)) for m in re.finditer(r"^impl (\w+) \{", text, re.M)]
+    for found in re.finditer(r"(#\[no_mangle\]\s*)?(\bpub )?(?:extern \"C\" )?\bfn (\w+)\s*\(", text):
+        end = closed(text, found.end() - 1)
+        owner = next((name for start, stop, name in owners if start < found.start() < stop), "")
+        parameters = [re.sub(r"^\w+: ", "", part) for part in listed(text[found.end():end - 1])]
+        returns = re.compile(r"\s*->\s*([^{]*?)\s*(?=\{|\b(?:ghost|requires|ensures)\b)").match(text, end)
+        end = returns.end() if returns else end
+        clauses = []
+        while clause := re.compile(r"\s*(ghost|requires|ensures)\s*\{").match(text, end):
+            end = closed(text, clause.end() - 1)
+            clauses.append((clause.group(1), line(text[clause.end():end - 1])))
+        header = line(text[found.start(3):end])
+        yield Function(owner, bool(found.group(2)), bool(found.group(1)), found.group(3), parameters, returns.group(1) if returns else "", clauses, header)
+
+
+def numbered(pairs):
+    """By name: the second of one name is called `name (2)`, so that none is lost."""
+    found = {}
+    for name, body in pairs:
+        count = 1
+        while (key := name if count == 1 else f"{name} ({count})") in found:
+            count += 1
+        found[key] = body
+    return found
+
+
+DECLARED = re.compile(r"(?:abbrev |unfoldable )*(?:pub )?(?:(?:record|data) (\S+)|([^\s():{}→λ]+)(?: [({].*)? :(?= |$))")
+
+
+def declarations(text):
+    """Each declaration of an antt file by its name, a field or constructor as `Record.field`: its text up to the next one.
+
+    What the modules around it take as given is part of it; what is declared inside a proof is part of the proof.
+    """
+    pairs, around = [], []  # around it: how far in each module or record stands, what it takes as given, the record's name
+    for row in filter(str.strip, antt(text).split("\n")):
+        depth, row = len(row) - len(row.lstrip()), row.strip()
+        while around and depth <= around[-1][0]:
+            around.pop()
+        found = depth == (around[-1][0] + 2 if around else 0) and DECLARED.match(row)
+        if around and around[-1][1] and not around[-1][1].endswith("where"):
+            around[-1][1] += " " + row
+        elif re.match(r"module\b", row):
+            around.append([depth, row, ""])
+        elif found:
+            record, name = found.groups()
+            owner = around[-1][2] if around else ""
+            pairs.append((f"{owner}.{name}" if owner else record or name, line(" ".join(given for _, given, _ in around) + " " + row)))
+            if record:
+                around.append([depth, "", record])
+        elif pairs and not re.match(r"(?:pub )?(?:use|mod)\b", row):
+            pairs[-1] = (pairs[-1][0], pairs[-1][1] + " " + row)
+    return numbered(pairs)
