@@ -64,23 +64,17 @@ fn covered_at(
     requires { ⌜ Ready s (now video) (now cursor) × OnCursor s (now cursor) j × (i < 32) ⌝ }
     ensures { λ r. ⌜ (r ≡ cursorBright s (now (video .entry)) (now (cursor .entry)) (now (pixels .entry)) (s .vcs .0 + j) i) × (r ≤ 255) ⌝ }
 {
-    let x = s.cx.0 as usize + i;
-    if x < s.ds.0 as usize {
+    let x = Pixels(s.cx.0 + i as u16);
+    if x.0 < s.ds.0 {
         return 0;
     }
-    if x >= s.de.0 as usize {
+    if x.0 >= s.de.0 {
         return 0;
     }
     if pair_at(cursor, j, i) == 0 {
         return 0;
     }
-    shown_at(
-        s,
-        video,
-        pixels,
-        Pixels(x as u16),
-        Rasters(s.vcs.0 + j as u16),
-    )
+    shown_at(s, video, pixels, x, Rasters(s.vcs.0 + j as u16))
 }
 
 // Cursor raster j: the sum over its 32 positions.

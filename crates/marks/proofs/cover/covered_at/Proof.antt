@@ -6,26 +6,20 @@ use borrow.Author.Needs.{needs}
 use Rattle.marks.proofs.cover.covered_at.Statement.{statement}
 use Rattle.marks.proofs.cover.covered_at.Tie as tie
 
-cast-x : tie.Need-cast-x
-cast-x c = search needs
+cast-t8 : tie.Need-cast-t8
+cast-t8 c = search needs
 
-add-x : tie.Need-add-x
-add-x c = search needs
-
-cast-if1 : tie.Need-cast-if1
-cast-if1 c = search needs
+add-t9 : tie.Need-add-t9
+add-t9 c = search needs
 
 returns : tie.Need-returns
 returns c =
-    let s = c .before .before .before .before .before in
+    let s = c .before .before .before .before .before .before in
     (cursor-out _ _ _ _ (s .pre .0 .accepted) _ _ (λ d. omega (arith, d .ds-x, c .if1 .taken)), omega arith)
-
-cast-if2 : tie.Need-cast-if2
-cast-if2 c = search needs
 
 returns-2 : tie.Need-returns-2
 returns-2 c =
-    let s = c .before .before .before .before .before .before .before in
+    let s = c .before .before .before .before .before .before .before .before .before in
     (cursor-out _ _ _ _ (s .pre .0 .accepted) _ _ (λ d. omega (arith, d .x-de, c .if2 .taken)), omega arith)
 
 pair-at-requires : tie.Need-pair-at-requires
@@ -33,35 +27,32 @@ pair-at-requires c κs = search needs
 
 returns-3 : tie.Need-returns-3
 returns-3 c =
-    let s = c .before .before .before .before .before .before .before .before .before in
+    let s = c .before .before .before .before .before .before .before .before .before .before .before in
     (cursor-clear _ _ _ _ (s .pre .0 .accepted) _ _ (pair-is _ _ _ _ ∙ sym (c .before .pair-at .ensures) ∙ c .if3 .taken), omega arith)
 
-cast-t11 : tie.Need-cast-t11
-cast-t11 c = search needs
-
-cast-t13 : tie.Need-cast-t13
-cast-t13 c =
-    let s = c .before .before .before .before .before .before .before .before .before in
+cast-t8-2 : tie.Need-cast-t8-2
+cast-t8-2 c =
+    let s = c .before .before .before .before .before .before .before .before .before .before .before in
     omega (arith, raster-small _ _ _ (s .pre .0) (s .pre .1 .here))
 
-add-t14 : tie.Need-add-t14
-add-t14 c =
-    let s = c .before .before .before .before .before .before .before .before .before .before in
+add-t9-2 : tie.Need-add-t9-2
+add-t9-2 c =
+    let s = c .before .before .before .before .before .before .before .before .before .before .before .before in
     omega (arith, raster-small _ _ _ (s .pre .0) (s .pre .1 .here))
 
 shown-at-requires : tie.Need-shown-at-requires
 shown-at-requires c κs =
     let right = c .before .before .before in
-    let left = right .before .before in
-    let s = left .before .before .before .before .before in
+    let left = right .before .before .before in
+    let s = left .before .before .before .before .before .before in
     (s .pre .0 .accepted, raster-displayed _ _ _ (s .pre .1) _ (left .if1 .left) (right .if2 .left), s .pre .0 .video-words)
 
 returns-4 : tie.Need-returns-4
 returns-4 c =
     let test = c .before .before in
     let right = test .before .before in
-    let left = right .before .before in
-    let s = left .before .before .before .before .before in (
+    let left = right .before .before .before in
+    let s = left .before .before .before .before .before .before in (
       c .shown-at .ensures .0
           ∙ cursor-shown _ _ _ _ (s .pre .0 .accepted) _ _ (raster-displayed _ _ _ (s .pre .1) _ (left .if1 .left) (right .if2 .left))
           (raster-covered _ _ _ (s .pre .1) _ (s .pre .0) (s .pre .2)
@@ -73,16 +64,13 @@ pub covered-at-spec : {M : Type 1} → statement M
 covered-at-spec =
     tie.close
     (tie.spec
-    cast-x
-    add-x
-    cast-if1
+    cast-t8
+    add-t9
     returns
-    cast-if2
     returns-2
     pair-at-requires
     returns-3
-    cast-t11
-    cast-t13
-    add-t14
+    cast-t8-2
+    add-t9-2
     shown-at-requires
     returns-4)
