@@ -1,4 +1,4 @@
-/* The plate renderer's calls for C. Link with libc_calls.a, which links into x86-64 programs alone; nothing else is
+/* The plate renderer's calls for C. Link with libvombelishi.a, which links into x86-64 programs alone; nothing else is
  * needed.
  *
  * Slices. Each slice is a pointer and, right behind it, its length in elements. The pointer of an empty slice may be
@@ -16,7 +16,7 @@
  *
  * A slice that is lent for an answer and is too short is refused with 13, after every other refusal of the call.
  *
- * Each call's result is proved, for every input, against the definitions in crates/c_calls/specs. */
+ * Each call's result is proved, for every input, against the definitions in crates/vombelishi/specs. */
 #ifndef VOMBELISHI_H
 #define VOMBELISHI_H
 

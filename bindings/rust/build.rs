@@ -1,15 +1,15 @@
-//! Links the proved library: libc_calls.a in the directory VOMBELISHI_LIB_DIR.
+//! Links the proved library: libvombelishi.a in the directory VOMBELISHI_LIB_DIR.
 
 use std::env;
 use std::path::{Path, PathBuf};
 use std::process;
 
 const MISSING: &str =
-    "VOMBELISHI_LIB_DIR must name the directory of libc_calls.a (`rt staticlib c_calls` makes it)";
+    "VOMBELISHI_LIB_DIR must name the directory of libvombelishi.a (`rt staticlib vombelishi` makes it)";
 
 fn library() -> Option<PathBuf> {
     let folder = Path::new(&env::var_os("VOMBELISHI_LIB_DIR")?).canonicalize().ok()?;
-    folder.join("libc_calls.a").exists().then_some(folder)
+    folder.join("libvombelishi.a").exists().then_some(folder)
 }
 
 fn main() {
@@ -18,7 +18,7 @@ fn main() {
         eprintln!("{MISSING}");
         process::exit(1);
     });
-    println!("cargo:rerun-if-changed={}", folder.join("libc_calls.a").display());
+    println!("cargo:rerun-if-changed={}", folder.join("libvombelishi.a").display());
     println!("cargo:rustc-link-search=native={}", folder.display());
-    println!("cargo:rustc-link-lib=static=c_calls");
+    println!("cargo:rustc-link-lib=static=vombelishi");
 }

@@ -10,14 +10,14 @@ use lib.Dec.{ltb}
 use lib.ListN.{length}
 use borrow.Author.Tests.{ltb-true, ltb-false, ne-eqb}
 use Rattle.buffers.specs.Pick.{pick}
-use Rattle.registers.specs.Table.{Told, given, refused, Row, row, judged, andThen, unlessRefused}
+use Rattle.refusals.specs.Table.{Why, why, Told, given, refused, Row, row, judged, andThen, unlessRefused}
 use Rattle.registers.specs.Load.{leading, loadTable}
 use Rattle.registers.specs.Check.{unwritten, settingTable}
 use Rattle.registers.specs.Sound.{soundUnwritten, soundFault, soundTable}
 use Rattle.registers.specs.declared.record.Registers.{Registers}
-use Rattle.registers.proofs.Tables.{never}
-use Rattle.c_calls.specs.Code.{codeOf, withRoom}
-use Rattle.c_calls.specs.Record.{lacking, recordOf, recordTold, underRecord}
+use Rattle.refusals.proofs.Tables.{never}
+use Rattle.vombelishi.specs.Code.{answerCode, withRoom}
+use Rattle.vombelishi.specs.Record.{lacking, recordOf, recordTold, underRecord}
 use Rattle.claims.specs.Calls.{ByTable, Kept}
 use Rattle.claims.specs.CRows.{ofRecord, roomFor}
 use Rattle.claims.specs.CViews.{saidBy}
@@ -26,7 +26,7 @@ use Rattle.claims.proofs.Tables.{by-table}
 -- The row that answers fits a number for C.
 abbrev Fitting : List Row → Type 0
 Fitting [] = Unit {0}
-Fitting (r ∷ rs) = (0 < r .number) × (r .when ≡ true → r .detail < 2 ^ 32) × (r .when ≡ false → Fitting rs)
+Fitting (r ∷ rs) = (0 < r .tells .number) × (r .when ≡ true → r .tells .detail < 2 ^ 32) × (r .when ≡ false → Fitting rs)
 
 pub record Fits (rows : List Row) : Type 0 where
   pub fits : Fitting rows
@@ -48,35 +48,36 @@ fitting-after (r ∷ rs) more f g = (f .0, f .1, λ e. fitting-after rs more (f 
 pub fits-after : {rs more : List Row} → Fits rs → Fits more → Fits (rs ++ more)
 fits-after {rs} {more} f g = record { fits = fitting-after rs more (f .fits) (g .fits) }
 
-said-refused : (n d : ℕ) → 0 < n → d < 2 ^ 32 → saidBy (n * 2 ^ 32 + d) ≡ refused n d
-said-refused n d h l = rw (ne-eqb (n * 2 ^ 32 + d) 0 (λ e. omega arith), digits-div n l, digits-mod n l)
+said-refused : (w : Why) → 0 < w .number → w .detail < 2 ^ 32 → saidBy (w .number * 2 ^ 32 + w .detail) ≡ refused w
+said-refused w h l =
+    rw (ne-eqb (w .number * 2 ^ 32 + w .detail) 0 (λ e. omega arith), digits-div (w .number) l, digits-mod (w .number) l)
 
-said : {A : Type 0} (rows : List Row) (a : A) → Fitting rows → saidBy (codeOf (judged rows a)) ≡ judged rows tt
+said : {A : Type 0} (rows : List Row) (a : A) → Fitting rows → saidBy (answerCode (judged rows a)) ≡ judged rows tt
 said [] a f = refl
 said (r ∷ rs) a f = go (r .when) (f .1) (λ e. said rs a (f .2 e))
   where
-    go : (b : Bool) → (b ≡ true → r .detail < 2 ^ 32) → (b ≡ false → saidBy (codeOf (judged rs a)) ≡ judged rs tt)
-        → saidBy (codeOf (pick b (refused (r .number) (r .detail)) (judged rs a))) ≡ pick b (refused (r .number) (r .detail)) (judged rs tt)
-    go true l more = said-refused (r .number) (r .detail) (f .0) (l refl)
+    go : (b : Bool) → (b ≡ true → r .tells .detail < 2 ^ 32) → (b ≡ false → saidBy (answerCode (judged rs a)) ≡ judged rs tt)
+        → saidBy (answerCode (pick b (refused (r .tells)) (judged rs a))) ≡ pick b (refused (r .tells)) (judged rs tt)
+    go true l more = said-refused (r .tells) (f .0) (l refl)
     go false l more = more refl
 
 -- A call that answers the number of a table goes by that table.
-pub by-code : {A : Type 0} {t : Told A} {code : ℕ} (rows : List Row) (a : A) → Fits rows → t ≡ judged rows a → code ≡ codeOf t
+pub by-code : {A : Type 0} {t : Told A} {code : ℕ} (rows : List Row) (a : A) → Fits rows → t ≡ judged rows a → code ≡ answerCode t
     → ByTable (saidBy code) rows tt
-by-code rows a f e c = by-table tt rows (ap saidBy (c ∙ ap codeOf e) ∙ said rows a (f .fits))
+by-code rows a f e c = by-table tt rows (ap saidBy (c ∙ ap answerCode e) ∙ said rows a (f .fits))
 
 -- What is left as it was where a call is refused.
-pub kept-code : {A B : Type 0} (t : Told A) {code : ℕ} {before after : B} (leaves : Told A → B) → code ≡ codeOf t → after ≡ leaves t
-    → ((n d : ℕ) → leaves (refused n d) ≡ before) → Kept (saidBy code) before after
-kept-code (given a) leaves c e was n d r = never (sym (ap saidBy c) ∙ r)
-kept-code (refused m k) leaves c e was n d r = e ∙ was m k
+pub kept-code : {A B : Type 0} (t : Told A) {code : ℕ} {before after : B} (leaves : Told A → B) → code ≡ answerCode t → after ≡ leaves t
+    → ((w : Why) → leaves (refused w) ≡ before) → Kept (saidBy code) before after
+kept-code (given a) leaves c e was w r = never (sym (ap saidBy c) ∙ r)
+kept-code (refused v) leaves c e was w r = e ∙ was v
 
 -- The same under a record that may not be there.
 pub kept-under : {A B : Type 0} (t : Told Registers) (tells : Registers → Told A) (holds : Registers → B) (then : Registers → B) {code : ℕ} {before after : B}
-    → ((g : Registers) → holds g ≡ unlessRefused (tells g) before (then g)) → code ≡ codeOf (andThen t tells) → after ≡ underRecord t before holds
+    → ((g : Registers) → holds g ≡ unlessRefused (tells g) before (then g)) → code ≡ answerCode (andThen t tells) → after ≡ underRecord t before holds
     → Kept (saidBy code) before after
-kept-under (given g) tells holds then {before = before} law c e = kept-code (tells g) (λ u. unlessRefused u before (then g)) c (e ∙ law g) (λ n d. refl)
-kept-under (refused m k) tells holds then law c e = λ n d r. e
+kept-under (given g) tells holds then {before = before} law c e = kept-code (tells g) (λ u. unlessRefused u before (then g)) c (e ∙ law g) (λ w. refl)
+kept-under (refused v) tells holds then law c e = λ w r. e
 
 -- A call of a record: 13, then the call's own table.
 pub record-told : {A : Type 0} (values written : List ℕ) (tells : Registers → Told A) (own : Registers → List Row) (a : Registers → A)
@@ -86,7 +87,7 @@ unfolding recordTold
 record-told values written tells own a e = go (lacking values written)
   where
     go : (b : Bool) → andThen (judged (row 13 b 0 ∷ []) (recordOf values written)) tells
-        ≡ pick b (refused 13 0) (judged (own (recordOf values written)) (a (recordOf values written)))
+        ≡ pick b (refused (why 13 0)) (judged (own (recordOf values written)) (a (recordOf values written)))
     go true = refl
     go false = e (recordOf values written)
 
@@ -94,7 +95,7 @@ pub record-fits : (values written : List ℕ) (own : Registers → List Row) →
 record-fits values written own f = plain (omega arith) (f (recordOf values written))
 
 pub record-code : {A : Type 0} {code : ℕ} (values written : List ℕ) (tells : Registers → Told A) (own : Registers → List Row) (a : Registers → A)
-    → ((g : Registers) → Fits (own g)) → ((g : Registers) → tells g ≡ judged (own g) (a g)) → code ≡ codeOf (andThen (recordTold values written) tells)
+    → ((g : Registers) → Fits (own g)) → ((g : Registers) → tells g ≡ judged (own g) (a g)) → code ≡ answerCode (andThen (recordTold values written) tells)
     → ByTable (saidBy code) (ofRecord values written own) tt
 record-code values written tells own a f e c =
     by-code (ofRecord values written own) (a (recordOf values written)) (record-fits values written own f) (record-told values written tells own a e) c
@@ -109,8 +110,8 @@ room-told needed places values rows a e = ap (λ u. withRoom needed places (andT
     go (r ∷ rs) = by (r .when) (go rs)
       where
         by : (b : Bool) → withRoom needed places (andThen (judged rs a) (λ c. given (values c))) ≡ judged (rs ++ roomFor needed places) (values a)
-            → withRoom needed places (andThen (pick b (refused (r .number) (r .detail)) (judged rs a)) (λ c. given (values c)))
-            ≡ pick b (refused (r .number) (r .detail)) (judged (rs ++ roomFor needed places) (values a))
+            → withRoom needed places (andThen (pick b (refused (r .tells)) (judged rs a)) (λ c. given (values c)))
+            ≡ pick b (refused (r .tells)) (judged (rs ++ roomFor needed places) (values a))
         by true q = refl
         by false q = q
 
@@ -118,7 +119,7 @@ pub room-fits : (needed places : ℕ) → Fits (roomFor needed places)
 room-fits needed places = plain (omega arith) no-rows
 
 pub room-code : {A B : Type 0} {t : Told A} {code : ℕ} (needed places : ℕ) (values : A → B) (rows : List Row) (a : A) → Fits rows → t ≡ judged rows a
-    → code ≡ codeOf (withRoom needed places (andThen t (λ b. given (values b)))) → ByTable (saidBy code) (rows ++ roomFor needed places) tt
+    → code ≡ answerCode (withRoom needed places (andThen t (λ b. given (values b)))) → ByTable (saidBy code) (rows ++ roomFor needed places) tt
 room-code needed places values rows a f e c =
     by-code (rows ++ roomFor needed places) (values a) (fits-after f (room-fits needed places))
     (room-told needed places values rows a e) c

@@ -7,7 +7,7 @@ use native.Mathlib.Omega.{arith}
 use lib.ListN.{length}
 use lib.Seq.{sets}
 use Rattle.buffers.specs.Painted.{painted}
-use Rattle.registers.specs.Table.{Told, given, Row, judged, unlessRefused}
+use Rattle.refusals.specs.Table.{Told, given, Row, judged, unlessRefused}
 use Rattle.registers.specs.Record.{wordTold}
 use Rattle.registers.specs.Load.{loadTable, loadTold}
 use Rattle.registers.specs.Setting.{settingOf}
@@ -15,7 +15,7 @@ use Rattle.registers.specs.Check.{settingTable, checkTold}
 use Rattle.registers.specs.Sound.{soundTable, soundTold}
 use Rattle.registers.specs.declared.record.Registers.{Registers}
 use Rattle.colours.specs.Colour.{colourOf}
-use Rattle.frame.specs.Frame.{cells, frameCell, frameTold, frameHeld, rasterCell, rasterTold, rasterHeld}
+use Rattle.frame.specs.Frame.{cells, frameCell, frameTold, frameLeaves, rasterCell, rasterTold, rasterLeaves}
 use Rattle.marks.specs.Marks.{marksOf, marksTold}
 use Rattle.stretch.specs.Stretch.{stretchOf, stretchTold}
 use Rattle.sound.specs.Values.{counterAfter}
@@ -25,15 +25,15 @@ use Rattle.plates.specs.Plate.{sectionsOf, plateOf, plateLength}
 use Rattle.plates.specs.Read.{copyTold, copied}
 use Rattle.plates.specs.Write.{writeTold}
 use Rattle.runs.specs.Text.{textOf}
-use Rattle.c_calls.specs.Code.{storedBy, cellBy}
-use Rattle.c_calls.specs.Record.{recordOf, recordTold}
-use Rattle.c_calls.specs.Load.{valueStored, flagStored, valuesStored, flagsStored, loadCall, loadValues, loadWritten, wordCall, wordValues, wordWritten}
-use Rattle.c_calls.specs.Settings.{numbersOf, settingTold, checkCall, checkSoundCall}
-use Rattle.c_calls.specs.Pictures.{frameCall, frameLeaves, rasterCall, rasterLeaves, foundTold, wordsCall, marksCall, colourCall}
-use Rattle.c_calls.specs.Sounds.{soundCall, soundLeaves, counterLeaves, pairCall}
-use Rattle.c_calls.specs.Files.{nineOf, readCall}
-use Rattle.c_calls.specs.Texts.{textCall, textLeaves}
-use Rattle.c_calls.proofs.Pictured.{placeOf}
+use Rattle.vombelishi.specs.Code.{storedBy, cellBy}
+use Rattle.vombelishi.specs.Record.{recordOf, recordTold}
+use Rattle.vombelishi.specs.Load.{valueStored, flagStored, valuesStored, flagsStored, loadCall, loadValues, loadWritten, wordCall, wordValues, wordWritten}
+use Rattle.vombelishi.specs.Settings.{numbersOf, settingTold, checkCall, checkSoundCall}
+use Rattle.vombelishi.specs.Pictures.{frameCall, frameCallLeaves, rasterCall, rasterCallLeaves, foundTold, wordsCall, marksCall, colourCall}
+use Rattle.vombelishi.specs.Sounds.{soundCall, soundLeaves, counterLeaves, pairCall}
+use Rattle.vombelishi.specs.Files.{nineOf, readCall}
+use Rattle.vombelishi.specs.Texts.{textCall, textLeaves}
+use Rattle.vombelishi.proofs.Pictured.{placeOf}
 use Rattle.claims.specs.Calls.{Every, numbers, ByTable, Kept}
 use Rattle.claims.specs.Rows.{wordRows, frameRows, rasterRows, marksRows, stretchRows, playRows, pairRows, readRows, copyRows, writeRows}
 use Rattle.claims.specs.CRows.{ofRecord, roomFor, textRows}
@@ -100,8 +100,8 @@ vom-load-refuses κs a x s p =
     let t = loadCall (run .values) (run .written) (run .words) in (
       record-code (run .values) (run .written) (λ g. loadTold (run .words)) (λ g. loadTable (run .words)) (λ g. tt)
           (λ g. load-fits (run .words)) (λ g. load-told (run .words)) (p .0),
-      kept-code t (λ u. unlessRefused u (run .values) (valuesStored (run .values) (run .words))) (p .0) (p .1) (λ n d. refl),
-      kept-code t (λ u. unlessRefused u (run .written) (flagsStored (run .written) (run .words))) (p .0) (p .2) (λ n d. refl),
+      kept-code t (λ u. unlessRefused u (run .values) (valuesStored (run .values) (run .words))) (p .0) (p .1) (λ w. refl),
+      kept-code t (λ u. unlessRefused u (run .written) (flagsStored (run .written) (run .words))) (p .0) (p .2) (λ w. refl),
     )
 
 pub vom-load-word-refuses : Every c.loadWord λ run.
@@ -113,8 +113,8 @@ vom-load-word-refuses κs a x s p =
     let t = wordCall (run .values) (run .written) (run .words) in (
       record-code (run .values) (run .written) (λ g. wordTold (run .words)) (λ g. wordRows (run .words)) (λ g. tt)
           (λ g. plain (omega arith) no-rows) (λ g. refl) (p .0),
-      kept-code t (λ u. unlessRefused u (run .values) (valueStored (run .values) (run .words))) (p .0) (p .1) (λ n d. refl),
-      kept-code t (λ u. unlessRefused u (run .written) (flagStored (run .written) (run .words))) (p .0) (p .2) (λ n d. refl),
+      kept-code t (λ u. unlessRefused u (run .values) (valueStored (run .values) (run .words))) (p .0) (p .1) (λ w. refl),
+      kept-code t (λ u. unlessRefused u (run .written) (flagStored (run .written) (run .words))) (p .0) (p .2) (λ w. refl),
     )
 
 -- Judging.
@@ -127,7 +127,7 @@ vom-check-refuses κs a x s p =
       room-code 21 (length (run .before)) numbersOf (ofRecord (run .values) (run .written) settingTable) (settingOf (recordOf (run .values) (run .written)))
           (record-fits (run .values) (run .written) settingTable setting-fits)
           (record-told (run .values) (run .written) checkTold settingTable settingOf check-told) (p .0),
-      kept-code (checkCall (run .values) (run .written) (length (run .before))) (λ u. storedBy u (run .before)) (p .0) (p .1) (λ n d. refl),
+      kept-code (checkCall (run .values) (run .written) (length (run .before))) (λ u. storedBy u (run .before)) (p .0) (p .1) (λ w. refl),
     )
 
 pub vom-check-sound-refuses : Every c.checkSound λ run. ByTable (run .answer) (ofRecord (run .values) (run .written) soundTable) tt
@@ -140,28 +140,28 @@ vom-check-sound-refuses κs a x s p =
 pub vom-frame-refuses : Every c.frame λ run.
     ByTable (run .answer) (ofRecord (run .values) (run .written) λ g. frameRows g (run .video) (run .cursor) (length (run .before))) tt
     × Kept (run .answer) (run .before) (run .after)
-unfolding frameCall frameLeaves frameHeld
+unfolding frameCall frameCallLeaves frameLeaves
 vom-frame-refuses κs a x s p =
     let run : FrameRun = c.frame .seen κs a x s in
     let tells : Registers → Told (Unit {0}) = λ g. frameTold g (run .video) (run .cursor) (length (run .before)) in (
       record-code (run .values) (run .written) tells (λ g. frameRows g (run .video) (run .cursor) (length (run .before))) (λ g. tt)
           (λ g. fits-after (setting-fits g) (plain (omega arith) (plain (omega arith) no-rows)))
           (λ g. frame-told g (run .video) (run .cursor) (length (run .before))) (p .0),
-      kept-under (recordTold (run .values) (run .written)) tells (λ g. frameHeld g (run .video) (run .cursor) (run .before))
+      kept-under (recordTold (run .values) (run .written)) tells (λ g. frameLeaves g (run .video) (run .cursor) (run .before))
           (λ g. painted (run .before) 0 (cells (settingOf g)) (frameCell g (settingOf g) (run .video) (run .cursor))) (λ g. refl) (p .0) (p .1),
     )
 
 pub vom-raster-refuses : Every c.raster λ run.
     ByTable (run .answer) (ofRecord (run .values) (run .written) λ g. rasterRows g (run .video) (run .cursor) (run .raster) (length (run .before))) tt
     × Kept (run .answer) (run .before) (run .after)
-unfolding rasterCall rasterLeaves rasterHeld
+unfolding rasterCall rasterCallLeaves rasterLeaves
 vom-raster-refuses κs a x s p =
     let run : RasterRun = c.raster .seen κs a x s in
     let tells : Registers → Told (Unit {0}) = λ g. rasterTold g (run .video) (run .cursor) (run .raster) (length (run .before)) in (
       record-code (run .values) (run .written) tells (λ g. rasterRows g (run .video) (run .cursor) (run .raster) (length (run .before))) (λ g. tt)
           (λ g. fits-after (setting-fits g) (plain (omega arith) (plain (omega arith) (plain (omega arith) no-rows))))
           (λ g. raster-told g (run .video) (run .cursor) (run .raster) (length (run .before))) (p .0),
-      kept-under (recordTold (run .values) (run .written)) tells (λ g. rasterHeld g (run .video) (run .cursor) (run .raster) (run .before))
+      kept-under (recordTold (run .values) (run .written)) tells (λ g. rasterLeaves g (run .video) (run .cursor) (run .raster) (run .before))
           (λ g. painted (run .before) 0 (settingOf g .n .0) (rasterCell g (settingOf g) (run .video) (run .cursor) (run .raster))) (λ g. refl) (p .0) (p .1),
     )
 
@@ -180,7 +180,7 @@ vom-raster-words-refuses κs a x s p =
           (record-told (run .values) (run .written) (λ g. stretchTold g (run .video) (run .raster)) own (λ g. stretchOf (settingOf g) (run .raster))
           (λ g. stretch-told g (run .video) (run .raster))) (p .0),
       kept-code (wordsCall (run .values) (run .written) (run .video) (run .raster) (length (run .before))) (λ u. storedBy u (run .before))
-          (p .0) (p .1) (λ n d. refl),
+          (p .0) (p .1) (λ w. refl),
     )
 
 pub vom-marks-refuses : Every c.marks λ run.
@@ -194,7 +194,7 @@ vom-marks-refuses κs a x s p =
           (λ g. fits-after (setting-fits g) (plain (omega arith) no-rows))
           (λ g. marks-told g (run .video) (run .cursor) (run .threshold)) (p .0),
       kept-code (marksCall (run .values) (run .written) (run .video) (run .cursor) (run .threshold)) (λ u. cellBy u (run .before))
-          (p .0) (p .1) (λ n d. refl),
+          (p .0) (p .1) (λ w. refl),
     )
 
 pub vom-colour-refuses : Every c.colour λ run.
@@ -204,7 +204,7 @@ vom-colour-refuses κs a x s p =
     let run : ColourRun = c.colour .seen κs a x s in (
       record-code (run .values) (run .written) (λ g. given (colourOf g (run .depth) (run .pixel))) (λ g. [])
           (λ g. colourOf g (run .depth) (run .pixel)) (λ g. no-rows) (λ g. refl) (p .0),
-      kept-code (colourCall (run .values) (run .written) (run .depth) (run .pixel)) (λ u. cellBy u (run .before)) (p .0) (p .1) (λ n d. refl),
+      kept-code (colourCall (run .values) (run .written) (run .depth) (run .pixel)) (λ u. cellBy u (run .before)) (p .0) (p .1) (λ w. refl),
     )
 
 -- Sound.
@@ -219,9 +219,9 @@ vom-sound-refuses κs a x s p =
           (λ g. playRows g (length (run .words)) (length (run .before))) (λ g. tt)
           (λ g. fits-after (sound-fits g) (plain (omega arith) no-rows))
           (λ g. play-told g (length (run .words)) (length (run .before))) (p .0),
-      kept-code t (λ u. unlessRefused u (run .counter) (counterAfter (run .counter) (4 * length (run .words)))) (p .0) (p .1) (λ n d. refl),
+      kept-code t (λ u. unlessRefused u (run .counter) (counterAfter (run .counter) (4 * length (run .words)))) (p .0) (p .1) (λ w. refl),
       kept-code t (λ u. unlessRefused u (run .before) (sets (run .before) 0 (playedOf (recordOf (run .values) (run .written)) (run .counter) (run .words))))
-          (p .0) (p .2) (λ n d. refl),
+          (p .0) (p .2) (λ w. refl),
     )
 
 pub vom-sound-pair-refuses : Every c.soundPair λ run.
@@ -231,7 +231,7 @@ vom-sound-pair-refuses κs a x s p =
     let run : PairRun = c.soundPair .seen κs a x s in (
       room-code 2 (length (run .before)) (λ sides. sides .left ∷ sides .right ∷ []) (pairRows (run .stereo)) (sidesOf (run .byte) (run .stereo % 8))
           (plain (omega arith) no-rows) (pair-told (run .byte) (run .stereo)) (p .0),
-      kept-code (pairCall (run .byte) (run .stereo) (length (run .before))) (λ u. storedBy u (run .before)) (p .0) (p .1) (λ n d. refl),
+      kept-code (pairCall (run .byte) (run .stereo) (length (run .before))) (λ u. storedBy u (run .before)) (p .0) (p .1) (λ w. refl),
     )
 
 -- Plate files.
@@ -241,7 +241,7 @@ unfolding readCall
 vom-read-refuses κs a x s p =
     let run : FileRun = c.read .seen κs a x s in (
       room-code 9 (length (run .before)) nineOf (readRows (run .file)) (sectionsOf (run .file)) (plain (omega arith) no-rows) (read-told (run .file)) (p .0),
-      kept-code (readCall (run .file) (length (run .before))) (λ u. storedBy u (run .before)) (p .0) (p .1) (λ n d. refl),
+      kept-code (readCall (run .file) (length (run .before))) (λ u. storedBy u (run .before)) (p .0) (p .1) (λ w. refl),
     )
 
 pub vom-copy-refuses : Every c.copy λ run.
@@ -251,7 +251,7 @@ vom-copy-refuses κs a x s p =
       by-code (copyRows (run .file) (length (run .before))) tt (plain (omega arith) (plain (omega arith) no-rows))
           (copy-told (run .file) (length (run .before))) (p .0),
       kept-code (copyTold (run .file) (length (run .before))) (λ u. unlessRefused u (run .before) (sets (run .before) 0 (copied (run .file))))
-          (p .0) (p .1) (λ n d. refl),
+          (p .0) (p .1) (λ w. refl),
     )
 
 pub vom-write-refuses : Every c.write λ run.
@@ -264,8 +264,8 @@ vom-write-refuses κs a x s p =
           (plateLength (run .registers) (run .video) (run .cursor) (run .sound)) (plain (omega arith) (plain (omega arith) no-rows))
           (write-told (run .registers) (run .video) (run .cursor) (run .sound) (length (run .before))) (p .0),
       kept-code t (λ u. unlessRefused u (run .before) (sets (run .before) 0 (plateOf (run .registers) (run .video) (run .cursor) (run .sound))))
-          (p .0) (p .1) (λ n d. refl),
-      kept-code t (λ u. cellBy u (run .size)) (p .0) (p .2) (λ n d. refl),
+          (p .0) (p .1) (λ w. refl),
+      kept-code t (λ u. cellBy u (run .size)) (p .0) (p .2) (λ w. refl),
     )
 
 text-told : (file : List ℕ) (places : ℕ) → textCall file places ≡ judged (textRows file places) (length (textOf file))
@@ -281,6 +281,6 @@ vom-text-refuses κs a x s p =
     let t = textCall (run .file) (length (run .before)) in (
       by-code (textRows (run .file) (length (run .before))) (length (textOf (run .file))) (plain (omega arith) no-rows)
           (text-told (run .file) (length (run .before))) (p .0),
-      kept-code t (λ u. unlessRefused u (run .before) (sets (run .before) 0 (textOf (run .file)))) (p .0) (p .1) (λ n d. refl),
-      kept-code t (λ u. cellBy u (run .size)) (p .0) (p .2) (λ n d. refl),
+      kept-code t (λ u. unlessRefused u (run .before) (sets (run .before) 0 (textOf (run .file)))) (p .0) (p .1) (λ w. refl),
+      kept-code t (λ u. cellBy u (run .size)) (p .0) (p .2) (λ w. refl),
     )

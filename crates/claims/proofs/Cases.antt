@@ -8,7 +8,7 @@ use Rattle.registers.specs.Setting.{settingOf, videoWords, cursorWords}
 use Rattle.registers.specs.Check.{checkTold}
 use Rattle.frame.specs.Pixel.{pixel, cursorPair}
 use Rattle.frame.specs.Cell.{plainCode, covered, code, cell}
-use Rattle.frame.specs.Frame.{frameTold, rasterCell, rasterTold, rasterHeld}
+use Rattle.frame.specs.Frame.{frameTold, rasterCell, rasterTold, rasterLeaves}
 use Rattle.sound.specs.Amplitude.{amplitudeOf, signedOf, valueOf}
 use Rattle.sound.specs.Pair.{pairTold}
 use Rattle.claims.specs.Marked.{AllHold, markedCases}
@@ -18,7 +18,7 @@ _and_ : {A B : Type 0} → A → B → A × B
 p and q = (p, q)
 
 pub all-marked-cases : AllHold markedCases
-unfolding eachFrom painted reserved storedOf applied lowest settingOf videoWords cursorWords checkTold pixel cursorPair plainCode covered code cell frameTold rasterCell rasterTold rasterHeld amplitudeOf signedOf valueOf pairTold
+unfolding eachFrom painted reserved storedOf applied lowest settingOf videoWords cursorWords checkTold pixel cursorPair plainCode covered code cell frameTold rasterCell rasterTold rasterLeaves amplitudeOf signedOf valueOf pairTold
 all-marked-cases =
     (refl, refl)
     and (refl, refl)

@@ -1,6 +1,7 @@
 -- Answers coincide: for every public call of every library, the theorem of its own contract, in one list.
 -- Of `raster_words` it says that any two answers read the same words at the same place.
-pub use Rattle.registers.proofs.Unique.{one-number, one-detail, one-pixels, one-width-from, one-height-from, one-of-value, one-is-reserved}
+pub use Rattle.refusals.proofs.Unique.{one-number, one-detail}
+pub use Rattle.registers.proofs.Unique.{one-pixels, one-width-from, one-height-from, one-of-value, one-is-reserved}
 pub use Rattle.registers.proofs.Unique.{one-addresses, one-new, one-store, one-palette, one-border, one-cursor-colour, one-display-on, one-border-on}
 pub use Rattle.registers.proofs.Unique.{one-video-words, one-cursor-words, one-pixel-rate, one-control, one-entries-in-use, one-sub-position}
 pub use Rattle.registers.proofs.Unique.{one-cursor-on, one-setting, one-stereo, one-sound-frequency, one-load-word, one-load, one-check}
@@ -14,6 +15,6 @@ pub use Rattle.plates.proofs.Unique.{one-read, one-copy-out, one-write}
 pub use Rattle.pictures.proofs.Unique.{one-guns}
 pub use Rattle.waves.proofs.Unique.{one-head, one-samples}
 pub use Rattle.runs.proofs.Unique.{one-line, one-strip, one-block, one-refusal}
-pub use Rattle.c_calls.proofs.Unique.{one-vom-read, one-vom-copy, one-vom-write, one-vom-colour, one-vom-grey, one-vom-pin, one-vom-load}
-pub use Rattle.c_calls.proofs.Unique.{one-vom-load-word, one-vom-frame, one-vom-raster, one-vom-raster-words, one-vom-marks, one-vom-check}
-pub use Rattle.c_calls.proofs.Unique.{one-vom-check-sound, one-vom-sound, one-vom-sound-pair, one-vom-text}
+pub use Rattle.vombelishi.proofs.Unique.{one-vom-read, one-vom-copy, one-vom-write, one-vom-colour, one-vom-grey, one-vom-pin, one-vom-load}
+pub use Rattle.vombelishi.proofs.Unique.{one-vom-load-word, one-vom-frame, one-vom-raster, one-vom-raster-words, one-vom-marks, one-vom-check}
+pub use Rattle.vombelishi.proofs.Unique.{one-vom-check-sound, one-vom-sound, one-vom-sound-pair, one-vom-text}

@@ -11,12 +11,12 @@ use borrow.Author.Tests.{eq-eqb, ltb-false}
 use Rattle.buffers.specs.Painted.{painted}
 use Rattle.buffers.proofs.Paints.{Paints, paints-of}
 use Rattle.buffers.proofs.Words.{Below}
-use Rattle.registers.specs.Table.{Told, given, unlessRefused}
+use Rattle.refusals.specs.Table.{Told, given, unlessRefused}
 use Rattle.registers.specs.Setting.{settingOf, videoWords, cursorWords}
 use Rattle.registers.specs.Rules.{EveryRule}
 use Rattle.registers.specs.declared.record.Registers.{Registers}
 use Rattle.registers.proofs.Exactly.{exactly}
-use Rattle.frame.specs.Frame.{cells, frameCell, rasterCell, rasterTold, rasterHeld}
+use Rattle.frame.specs.Frame.{cells, frameCell, rasterCell, rasterTold, rasterLeaves}
 use Rattle.marks.specs.Count.{bit, countBelow}
 use Rattle.marks.specs.Marks.{isMark, marksOf, marksTold}
 use Rattle.marks.proofs.Totals.{total-as}
@@ -41,8 +41,8 @@ pub accepted-exactly : Every call.check λ run. (run .answer ≡ given (settingO
 accepted-exactly κs a x s p = let g = call.check .seen κs a x s .registers in (λ e. exactly g .0 (sym p ∙ e), λ h. p ∙ exactly g .1 h)
 
 raster-held : (g : Registers) (video cursor : List ℕ) (y : ℕ) (before after : List ℕ) → settingOf g .n .0 ≤ length before
-    → rasterTold g video cursor y (length before) ≡ given tt → after ≡ rasterHeld g video cursor y before → Rastered g video cursor y before after
-unfolding rasterHeld rasterCell
+    → rasterTold g video cursor y (length before) ≡ given tt → after ≡ rasterLeaves g video cursor y before → Rastered g video cursor y before after
+unfolding rasterLeaves rasterCell
 raster-held g video cursor y before after room t e =
     let drawn : after ≡ painted before 0 (settingOf g .n .0) (rasterCell g (settingOf g) video cursor y) =
     e ∙ ap (λ (u : Told (Unit {0})). unlessRefused u before (painted before 0 (settingOf g .n .0) (rasterCell g (settingOf g) video cursor y))) t in

@@ -3,7 +3,7 @@ use Prim.Native.Nat.{ℕ, _*_, _%_}
 use mathlib.Core.Path.{_≡_, refl}
 use mathlib.Core.List.{List, [], _∷_}
 use lib.Dec.{ltb}
-use Rattle.registers.specs.Table.{row, judged}
+use Rattle.refusals.specs.Table.{row, judged}
 use Rattle.registers.specs.Load.{loadTable, loadTold}
 use Rattle.registers.specs.Setting.{settingOf}
 use Rattle.registers.specs.Check.{settingTable, checkTold}

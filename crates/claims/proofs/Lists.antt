@@ -15,7 +15,7 @@ use Rattle.registers.specs.declared.setting.Setting.{Setting}
 use Rattle.registers.proofs.Accepted.{Depth, Accepted}
 use Rattle.registers.proofs.Words.{depth-least, raster-bits, video-rasters}
 use Rattle.frame.specs.Pixel.{pixel, position}
-use Rattle.frame.proofs.CellCodes.{Displayed}
+use Rattle.frame.proofs.CellCodes.{InDisplay}
 use Rattle.frame.proofs.RasterWords.{fills-word}
 use Rattle.frame.proofs.Words.{pixel-field}
 use Rattle.claims.specs.Exhibited.{onePixel}
@@ -95,7 +95,7 @@ module _ (words q d n j p : ℕ) (fills : n * d ≡ 32) (here : q < words) (fits
       go (inr e) = rw (word-other i e) (omega arith)
 
 -- The position of a displayed pixel is one of those that the words hold.
-module _ (s : Setting) (a : Accepted s) (x y : ℕ) (here : Displayed s x y) where
+module _ (s : Setting) (a : Accepted s) (x y : ℕ) (here : InDisplay s x y) where
   position-below : position s x y < (s .vde .0 - s .vds .0) * (s .de .0 - s .ds .0)
   position-below =
       let row : y - s .vds .0 + 1 ≤ s .vde .0 - s .vds .0 = omega (arith, here .vds-y, here .y-vde) in

@@ -11,7 +11,7 @@ use lib.ListN.{length, getD, take}
 use lib.Seq.{ext-getD, getD-take, length-take-le}
 use Rattle.buffers.proofs.Tests.{and-split}
 use Rattle.buffers.proofs.Words.{Below}
-use Rattle.registers.specs.Table.{given}
+use Rattle.refusals.specs.Table.{given}
 use Rattle.registers.specs.Setting.{settingOf, videoWords, cursorWords}
 use Rattle.registers.specs.Check.{checkTold}
 use Rattle.registers.specs.declared.record.Registers.{Registers}
@@ -21,7 +21,7 @@ use Rattle.colours.specs.Colour.{colourOf}
 use Rattle.frame.specs.Pixel.{pixel, position, logical}
 use Rattle.frame.specs.Cell.{inDisplay, covered}
 use Rattle.frame.specs.Frame.{cells}
-use Rattle.frame.proofs.CellCodes.{Displayed, displayed}
+use Rattle.frame.proofs.CellCodes.{InDisplay, displayed}
 use Rattle.frame.proofs.PixelPlaces.{pixel-below}
 use Rattle.claims.specs.Shown.{Distinct, Alike, uncovered, SamePixels, frameIn}
 use Rattle.claims.specs.Exhibited.{onePixel}
@@ -34,12 +34,12 @@ use Rattle.claims.proofs.Cells.{same-cell, told-colour}
 use Rattle.claims.proofs.Runs.{framed}
 use Rattle.claims.proofs.Lists.{one-size, one-words, one-here, one-other}
 
-uncovered-displayed : (s : Setting) (cursor : List ℕ) (x y : ℕ) → uncovered s cursor x y ≡ true → Displayed s x y
+uncovered-displayed : (s : Setting) (cursor : List ℕ) (x y : ℕ) → uncovered s cursor x y ≡ true → InDisplay s x y
 unfolding uncovered
 uncovered-displayed s cursor x y u = displayed s x y (and-split (inDisplay s x y) (not (covered s cursor x y)) u .0)
 
 -- A displayed position's place in the frame.
-module _ (s : Setting) (a : Accepted s) (x y : ℕ) (here : Displayed s x y) where
+module _ (s : Setting) (a : Accepted s) (x y : ℕ) (here : InDisplay s x y) where
   place-below : y * s .n .0 + x < cells s
   place-below =
       let d = a .display (here .on) in
@@ -120,7 +120,7 @@ frame-tells-pixels distinct κs a x s p κs′ a′ x′ s′ p′ on on′ r r�
     tells (r .accepted) (r .room) (r′ .room) (framed κs a x s p on r) (framed κs′ a′ x′ s′ p′ on′ r′) distinct
 
 -- Pixels of the exhibited lists have the same colour at every position.
-like-colours : (g : Registers) (i j x y : ℕ) (a : Accepted (settingOf g)) → Displayed (settingOf g) x y → Alike g i j → (v w : ℕ)
+like-colours : (g : Registers) (i j x y : ℕ) (a : Accepted (settingOf g)) → InDisplay (settingOf g) x y → Alike g i j → (v w : ℕ)
     → colourOf g (settingOf g .depth) (logical (settingOf g) (onePixel (settingOf g) x y i) v w)
     ≡ colourOf g (settingOf g .depth) (logical (settingOf g) (onePixel (settingOf g) x y j) v w)
 like-colours g i j x y a here alike v w = go (by-cases (position s v w) (position s x y))

@@ -9,7 +9,7 @@ use lib.Seq.{sets}
 use borrow.Author.Tests.{eq-eqb, ne-eqb}
 use Rattle.buffers.specs.Pick.{pick}
 use Rattle.buffers.specs.Put.{Put}
-use Rattle.registers.specs.Table.{Told, given, refused, Row, row, judged, andThen, First}
+use Rattle.refusals.specs.Table.{Why, Told, given, refused, Row, row, judged, andThen, First}
 use Rattle.registers.specs.Load.{loadTable, loadTold}
 use Rattle.registers.specs.Setting.{settingOf}
 use Rattle.registers.specs.Check.{settingTable, checkTold}
@@ -73,8 +73,8 @@ wave-table file =
 
 -- A piece that goes by what a table tells.
 piece : {A : Type 0} (run : PieceRun) {t : Told A} (text : Told A → List ℕ) {rows : List Row} {a : A} → ByTable t rows a
-    → Put (run .before) (run .after) 0 (text t) (run .bytes) → StoredBy run rows (text (given a)) (λ n d. text (refused n d))
-piece {A} run {t} text b p = record { given = λ q. stored (b .given-when .1 q); refused = λ n d f. stored (b .refused-when n d .1 f) }
+    → Put (run .before) (run .after) 0 (text t) (run .bytes) → StoredBy run rows (text (given a)) (λ w. text (refused w))
+piece {A} run {t} text b p = record { given = λ q. stored (b .given-when .1 q); refused = λ w f. stored (b .refused-when w .1 f) }
   where
     stored : {u : Told A} → t ≡ u → Stored run (text u)
     stored e = (p .stored ∙ ap (λ u. sets (run .before) 0 (text u)) e, omega (arith, p .after, ap (λ u. length (text u)) e))
@@ -83,47 +83,47 @@ piece {A} run {t} text b p = record { given = λ q. stored (b .given-when .1 q);
 pub line-stored : Every call.line λ run.
     StoredBy run (sheetRows (run .file))
     (pictureLine (registersOf (run .file)) (settingOf (registersOf (run .file))) (videoList (run .file)) (cursorList (run .file)) (run .index))
-    (λ n d. pick (eqb (run .index) 0) (refusedLine n d) [])
+    (λ w. pick (eqb (run .index) 0) (refusedLine w) [])
 unfolding lineAt
 line-stored κs a x s p =
     let run : PieceRun = call.line .seen κs a x s in
     piece run (lineFor (run .file) (run .index)) (sheet-table (run .file)) p
 
-pub line-refuses : Every call.line λ run. (n d : ℕ) → First (sheetRows (run .file)) n d → run .index ≡ 0 → Stored run (refusedLine n d)
-line-refuses κs a x s p n d f e = rw (eq-eqb (call.line .seen κs a x s .index) 0 e) at (line-stored κs a x s p .refused n d f)
+pub line-refuses : Every call.line λ run. (w : Why) → First (sheetRows (run .file)) w → run .index ≡ 0 → Stored run (refusedLine w)
+line-refuses κs a x s p w f e = rw (eq-eqb (call.line .seen κs a x s .index) 0 e) at (line-stored κs a x s p .refused w f)
 
-pub no-other-line : Every call.line λ run. (n d : ℕ) → First (sheetRows (run .file)) n d → (run .index ≡ 0 → ⊥) → Stored run []
-no-other-line κs a x s p n d f h = rw (ne-eqb (call.line .seen κs a x s .index) 0 h) at (line-stored κs a x s p .refused n d f)
+pub no-other-line : Every call.line λ run. (w : Why) → First (sheetRows (run .file)) w → (run .index ≡ 0 → ⊥) → Stored run []
+no-other-line κs a x s p w f h = rw (ne-eqb (call.line .seen κs a x s .index) 0 h) at (line-stored κs a x s p .refused w f)
 
-pub text-refused : (file : List ℕ) (n d : ℕ) → First (sheetRows file) n d → textOf file ≡ refusedLine n d
+pub text-refused : (file : List ℕ) (w : Why) → First (sheetRows file) w → textOf file ≡ refusedLine w
 unfolding textOf firstLines lineAt
-text-refused file n d f = let e = sheet-table file .refused-when n d .1 f in rw e (ap (lineFor file 0) e)
+text-refused file w f = let e = sheet-table file .refused-when w .1 f in rw e (ap (lineFor file 0) e)
 
 -- A strip of the picture; a refused plate has none.
 pub strip-stored : Every call.strip λ run.
     StoredBy run (sheetRows (run .file))
     (pictureStrip (registersOf (run .file)) (settingOf (registersOf (run .file))) (videoList (run .file)) (cursorList (run .file)) (run .index))
-    (λ n d. [])
+    (λ w. [])
 unfolding stripAt
 strip-stored κs a x s p =
     let run : PieceRun = call.strip .seen κs a x s in
     piece run (stripFor (run .file) (run .index)) (sheet-table (run .file)) p
 
-pub picture-refused : (file : List ℕ) (n d : ℕ) → First (sheetRows file) n d → pictureOf file ≡ []
+pub picture-refused : (file : List ℕ) (w : Why) → First (sheetRows file) w → pictureOf file ≡ []
 unfolding pictureOf firstStrips
-picture-refused file n d f = rw (sheet-table file .refused-when n d .1 f)
+picture-refused file w f = rw (sheet-table file .refused-when w .1 f)
 
 -- A block of the sound; a plate whose sound is refused has none, and a line that says so.
 pub block-stored : Every call.block λ run.
-    StoredBy run (waveRows (run .file)) (waveBlock (registersOf (run .file)) (soundList (run .file)) (run .index)) (λ n d. [])
+    StoredBy run (waveRows (run .file)) (waveBlock (registersOf (run .file)) (soundList (run .file)) (run .index)) (λ w. [])
 unfolding blockAt
 block-stored κs a x s p =
     let run : PieceRun = call.block .seen κs a x s in
     piece run (blockFor (run .file) (run .index)) (wave-table (run .file)) p
 
-pub wave-refused : (file : List ℕ) (n d : ℕ) → First (waveRows file) n d → waveOf file ≡ []
+pub wave-refused : (file : List ℕ) (w : Why) → First (waveRows file) w → waveOf file ≡ []
 unfolding waveOf
-wave-refused file n d f = rw (wave-table file .refused-when n d .1 f)
+wave-refused file w f = rw (wave-table file .refused-when w .1 f)
 
 pub sound-refusal-stored : Every call.soundRefusal λ run. StoredBy run (waveRows (run .file)) [] refusedLine
 unfolding waveRefusal

@@ -8,14 +8,14 @@ use lib.ListN.{length}
 use lib.Seq.{sets}
 use Rattle.buffers.specs.Pick.{pick}
 use Rattle.buffers.specs.Painted.{painted}
-use Rattle.registers.specs.Table.{refused, Row, judged}
+use Rattle.refusals.specs.Table.{refused, Row, judged}
 use Rattle.registers.specs.Record.{storedOf}
 use Rattle.registers.specs.Load.{applied, loadTable}
 use Rattle.registers.specs.Setting.{settingOf}
 use Rattle.registers.specs.Check.{settingTable}
 use Rattle.registers.specs.Sound.{soundTable}
 use Rattle.registers.specs.declared.record.Registers.{Registers}
-use Rattle.frame.specs.Frame.{cells, frameCell, frameHeld, rasterCell, rasterHeld}
+use Rattle.frame.specs.Frame.{cells, frameCell, frameLeaves, rasterCell, rasterLeaves}
 use Rattle.marks.specs.Marks.{marksOf}
 use Rattle.stretch.specs.Stretch.{stretchOf, stretchTold, answerTold}
 use Rattle.stretch.specs.declared.found.Stretch.{Stretch}
@@ -97,7 +97,7 @@ check-sound-refuses κs a x s p = by-table tt _ (p ∙ sound-told (call.checkSou
 pub frame-refuses : Every call.frame λ run.
     ByTable (run .answer) (frameRows (run .registers) (run .video) (run .cursor) (length (run .before))) tt
     × Kept (run .answer) (run .before) (run .after)
-unfolding frameHeld
+unfolding frameLeaves
 frame-refuses κs a x s p =
     let run : FrameRun = call.frame .seen κs a x s in
     let g = run .registers in (
@@ -108,7 +108,7 @@ frame-refuses κs a x s p =
 pub raster-refuses : Every call.raster λ run.
     ByTable (run .answer) (rasterRows (run .registers) (run .video) (run .cursor) (run .raster) (length (run .before))) tt
     × Kept (run .answer) (run .before) (run .after)
-unfolding rasterHeld
+unfolding rasterLeaves
 raster-refuses κs a x s p =
     let run : RasterRun = call.raster .seen κs a x s in
     let g = run .registers in (
@@ -139,7 +139,7 @@ answered [] b = refl
 answered (r ∷ rs) b = go (r .when) (answered rs b)
   where
     go : (t : Bool) → answerTold (judged rs b) ≡ judged rs tt
-        → answerTold (pick t (refused (r .number) (r .detail)) (judged rs b)) ≡ pick t (refused (r .number) (r .detail)) (judged rs tt)
+        → answerTold (pick t (refused (r .tells)) (judged rs b)) ≡ pick t (refused (r .tells)) (judged rs tt)
     go true e = refl
     go false e = e
 

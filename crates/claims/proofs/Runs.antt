@@ -8,11 +8,11 @@ use borrow.Author.Tests.{eq-eqb, le-ltb}
 use denote.Ref.{RefT}
 use Rattle.buffers.specs.Painted.{painted}
 use Rattle.buffers.proofs.Paints.{Paints, paints-of}
-use Rattle.registers.specs.Table.{Told, given, unlessRefused}
+use Rattle.refusals.specs.Table.{Told, given, unlessRefused}
 use Rattle.registers.specs.Setting.{settingOf, videoWords, cursorWords}
 use Rattle.registers.specs.declared.record.Registers.{Registers}
-use Rattle.registers.specs.declared.refusal.Answer.the-variants.{Done}
-use Rattle.frame.specs.Frame.{cells, frameCell, frameTold, frameHeld}
+use Rattle.refusals.specs.declared.Answer.the-variants.{Done}
+use Rattle.frame.specs.Frame.{cells, frameCell, frameTold, frameLeaves}
 use Rattle.claims.specs.Calls.{Call, Every, Ran}
 use Rattle.claims.specs.Views as call
 use Rattle.claims.specs.Framed.{On, Right, Framed}
@@ -35,8 +35,8 @@ module _ {g : Registers} {video cursor before : List ℕ} where
       let p : Paints 0 before after 0 (cells (settingOf g)) (frameCell g (settingOf g) video cursor) = paints-of room e in
       record { long = p .len; each = λ k h. p .on k (omega arith) h; beyond = p .high }
 
-  held-framed : {after : List ℕ} → Right g video cursor before → after ≡ frameHeld g video cursor before → Framed g video cursor before after
-  unfolding frameHeld
+  held-framed : {after : List ℕ} → Right g video cursor before → after ≡ frameLeaves g video cursor before → Framed g video cursor before after
+  unfolding frameLeaves
   held-framed r h =
       let drawn = painted before 0 (cells (settingOf g)) (frameCell g (settingOf g) video cursor) in
       painted-framed (r .room) (h ∙ ap (λ (u : Told (Unit {0})). unlessRefused u before drawn) (right-told r))
@@ -66,14 +66,14 @@ pub right-runs : (g : Registers) (video cursor before : List ℕ) → Right g vi
       cursor = cursor;
       answer = given tt;
       before = before;
-      after = frameHeld g video cursor before;
+      after = frameLeaves g video cursor before;
     })
 unfolding lent
 right-runs g video cursor before r = record {
   lifetimes = ([], ([], ([], tt)));
   arguments = (g, (lent video, (lent cursor, (lent before, tt))));
   answer = Done;
-  exit = (g, (lent video, (lent cursor, (lent (frameHeld g video cursor before), tt))));
+  exit = (g, (lent video, (lent cursor, (lent (frameLeaves g video cursor before), tt))));
   promise = (sym (right-told r), refl);
   is = refl;
 }

@@ -6,7 +6,7 @@ use mathlib.Core.List.{List, [], _∷_, _++_, map}
 use lib.ListN.{length}
 use Rattle.buffers.specs.Words.{bytesOf, wordsOf}
 use Rattle.buffers.specs.Values.{valuesFrom}
-use Rattle.registers.specs.Table.{given}
+use Rattle.refusals.specs.Table.{given}
 use Rattle.registers.specs.Record.{reserved, fresh, storedOf}
 use Rattle.registers.specs.Load.{leading, applied, loadTold}
 use Rattle.registers.specs.Lowest.{lowest}
@@ -24,7 +24,7 @@ use Rattle.plates.specs.Read.{readTold}
 use Rattle.runs.specs.Decimal.{digits, decimal}
 use Rattle.runs.specs.Runs.{codeOf, run}
 use Rattle.runs.specs.Sheet.{registerWords, videoList, cursorList, registersOf, takenTold, pictureTold, sheetTold}
-use Rattle.runs.specs.Text.{labelled, headLine, rasterLine, headOf, pictureLine, lineAt, firstLines, textOf}
+use Rattle.runs.specs.Text.{labelled, headLine, rasterLine, pictureHead, pictureLine, lineAt, firstLines, textOf}
 use Rattle.runs.proofs.Spread.{Codes, _of_, spread, Apart, runsText, line-spread}
 use Rattle.claims.specs.Marked.{smallVideo}
 use Rattle.claims.specs.SmallText.{smallPlate, smallText, bytes}
@@ -70,8 +70,8 @@ unfolding sheetTold
 small-told = rw (small-taken, small-registers, video-back, cursor-back) small-picture
 
 -- The head: no cell of the frame is a mark.
-head : headOf smallRegisters small smallVideo [] ≡ bytes "frame 32 6 words 1 marks 0\n"
-unfolding reserved storedOf applied lowest settingOf pixel plainCode covered code cell frameCell total marksOf digits decimal labelled headLine headOf
+head : pictureHead smallRegisters small smallVideo [] ≡ bytes "frame 32 6 words 1 marks 0\n"
+unfolding reserved storedOf applied lowest settingOf pixel plainCode covered code cell frameCell total marksOf digits decimal labelled headLine pictureHead
 head = refl
 
 -- A raster's line, from its codes in runs.

@@ -5,23 +5,23 @@ use mathlib.Core.Bool.{Bool, true, false}
 use mathlib.Core.List.{List, [], _∷_, _++_}
 use mathlib.Core.Logic.{inl, inr}
 use Rattle.buffers.specs.Pick.{pick}
-use Rattle.registers.specs.Table.{Told, refused, Row, judged, andThen, unlessRefused, First}
-use Rattle.registers.proofs.Tables.{passes-given, given-passes, refused-first, first-refused}
+use Rattle.refusals.specs.Table.{Why, Told, refused, Row, judged, andThen, unlessRefused, First}
+use Rattle.refusals.proofs.Tables.{passes-given, given-passes, refused-first, first-refused}
 use Rattle.claims.specs.Calls.{numbers, OneOf, ByTable, Kept}
 
 module _ {A : Type 0} (a : A) where
-  first-number : (rows : List Row) (n d : ℕ) → First rows n d → OneOf n (numbers rows)
-  first-number [] n d f = f
-  first-number (r ∷ rs) n d (inl f) = inl (sym (f .1))
-  first-number (r ∷ rs) n d (inr f) = inr (first-number rs n d (f .1))
+  first-number : (rows : List Row) (w : Why) → First rows w → OneOf (w .number) (numbers rows)
+  first-number [] w f = f
+  first-number (r ∷ rs) w (inl f) = inl (ap (λ (v : Why). v .number) (sym (f .1)))
+  first-number (r ∷ rs) w (inr f) = inr (first-number rs w (f .1))
 
   judged-table : (rows : List Row) → ByTable (judged rows a) rows a
   judged-table rows =
       record {
         given-when = (λ e. given-passes a rows a e .0, passes-given a rows);
         given-what = λ b e. sym (given-passes a rows b e .1);
-        refused-when = λ n d. (refused-first a rows n d, first-refused a rows n d);
-        refused-with = λ n d e. first-number rows n d (refused-first a rows n d e);
+        refused-when = λ w. (refused-first a rows w, first-refused a rows w);
+        refused-with = λ w e. first-number rows w (refused-first a rows w e);
       }
 
   -- An answer that tells what a table judges.
@@ -35,11 +35,11 @@ and-then-judged b [] more a = refl
 and-then-judged b (r ∷ rs) more a = go (r .when) (and-then-judged b rs more a)
   where
     go : (t : Bool) → andThen (judged rs b) (λ c. judged (more c) (a c)) ≡ judged (rs ++ more b) (a b)
-        → andThen (pick t (refused (r .number) (r .detail)) (judged rs b)) (λ c. judged (more c) (a c))
-        ≡ pick t (refused (r .number) (r .detail)) (judged (rs ++ more b) (a b))
+        → andThen (pick t (refused (r .tells)) (judged rs b)) (λ c. judged (more c) (a c))
+        ≡ pick t (refused (r .tells)) (judged (rs ++ more b) (a b))
     go true e = refl
     go false e = e
 
 -- What is left as it was where a call is refused.
 pub kept : {A B : Type 0} {t u : Told A} {before after : B} (then : B) → u ≡ t → after ≡ unlessRefused t before then → Kept u before after
-kept {before = before} then e h n d r = h ∙ ap (λ u. unlessRefused u before then) (sym e ∙ r)
+kept {before = before} then e h w r = h ∙ ap (λ u. unlessRefused u before then) (sym e ∙ r)

@@ -4,11 +4,11 @@ use mathlib.Core.Path.{_≡_, refl, sym, _∙_, ap}
 use mathlib.Core.Bool.{true, false, false≢true}
 use mathlib.Core.List.{List, [], _∷_, _++_}
 use lib.ListN.{take, drop}
-use Rattle.registers.specs.Table.{Told, given, refused, Row, Passes, First}
+use Rattle.refusals.specs.Table.{Why, Told, given, refused, Row, Passes, First}
 use Rattle.registers.specs.Setting.{settingOf}
 use Rattle.registers.specs.Check.{settingTable, checkTold}
 use Rattle.registers.specs.declared.record.Registers.{Registers}
-use Rattle.registers.proofs.Tables.{passes-given}
+use Rattle.refusals.proofs.Tables.{passes-given}
 use Rattle.registers.proofs.Accepted.{Accepted, accepted}
 use Rattle.frame.specs.Pixel.{pixel, logical}
 use Rattle.stretch.specs.Stretch.{isDisplayed, stretchOf, stretchTable, stretchTold, wordsTold, startTold}
@@ -32,10 +32,10 @@ raster-words-given κs a x s p q =
     (p .words ∙ ap (wordsTold (run .video)) e, λ i. (p .memory i, (p .place ∙ ap (λ t. run .video-place .1 + 4 * startTold t) e) i))
 
 -- Refused, there are none.
-pub raster-words-refused : Every call.rasterWords λ run. (n d : ℕ) → First (stretchRows (run .registers) (run .video) (run .raster)) n d → run .words ≡ []
-raster-words-refused κs a x s p n d f =
+pub raster-words-refused : Every call.rasterWords λ run. (w : Why) → First (stretchRows (run .registers) (run .video) (run .raster)) w → run .words ≡ []
+raster-words-refused κs a x s p w f =
     let run : WordsRun = call.rasterWords .seen κs a x s in
-    p .words ∙ ap (wordsTold (run .video)) (stretch-table (run .registers) (run .video) (run .raster) .refused-when n d .1 f)
+    p .words ∙ ap (wordsTold (run .video)) (stretch-table (run .registers) (run .video) (run .raster) .refused-when w .1 f)
 
 -- Nor of a raster that is not displayed, refused or not.
 pub raster-words-undisplayed : Every call.rasterWords λ run. isDisplayed (settingOf (run .registers)) (run .raster) ≡ false → run .words ≡ []
@@ -51,7 +51,7 @@ raster-words-undisplayed κs a x s p h = p .words ∙ go (stretchTold g video y)
     y = call.rasterWords .seen κs a x s .raster
 
     go : (t : Told Stretch) → stretchTold g video y ≡ t → wordsTold video t ≡ []
-    go (refused n d) e = refl
+    go (refused w) e = refl
     go (given q) e =
         let none = stretch-none (settingOf g) y (λ l. false≢true (sym h ∙ is-displayed (settingOf g) y (l .0) (l .1))) in
         ap (λ (u : Stretch). take (u .count) (drop (u .start) video)) (stretch-table g video y .given-what q e ∙ sym none)

@@ -3,10 +3,10 @@ use Prim.Native.Nat.{ℕ}
 use mathlib.Core.List.{List, [], _∷_}
 use lib.Dec.{ltb}
 use lib.ListN.{length}
-use Rattle.registers.specs.Table.{Row, row}
+use Rattle.refusals.specs.Table.{Row, row}
 use Rattle.registers.specs.declared.record.Registers.{Registers}
 use Rattle.runs.specs.Text.{textOf}
-use Rattle.c_calls.specs.Record.{lacking, recordOf}
+use Rattle.vombelishi.specs.Record.{lacking, recordOf}
 
 -- A call of a record: 13 for a slice shorter than 64, then the call's own table of the record that the two slices hold.
 abbrev pub ofRecord : List ℕ → List ℕ → (Registers → List Row) → List Row

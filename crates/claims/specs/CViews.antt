@@ -5,42 +5,42 @@ use lib.Dec.{eqb}
 use lib.IntN.{ℤ}
 use denote.Ref.{now}
 use Rattle.buffers.specs.Pick.{pick}
-use Rattle.registers.specs.Table.{Told, given, refused}
-use Rattle.c_calls.proofs.loads.vom_load.Kinds as load-kinds
-use Rattle.c_calls.proofs.loads.vom_load.Reads as load-reads
-use Rattle.c_calls.proofs.loads.vom_load_word.Kinds as load-word-kinds
-use Rattle.c_calls.proofs.loads.vom_load_word.Reads as load-word-reads
-use Rattle.c_calls.proofs.settings.vom_check.Kinds as check-kinds
-use Rattle.c_calls.proofs.settings.vom_check.Reads as check-reads
-use Rattle.c_calls.proofs.settings.vom_check_sound.Kinds as check-sound-kinds
-use Rattle.c_calls.proofs.settings.vom_check_sound.Reads as check-sound-reads
-use Rattle.c_calls.proofs.pictures.vom_frame.Kinds as frame-kinds
-use Rattle.c_calls.proofs.pictures.vom_frame.Reads as frame-reads
-use Rattle.c_calls.proofs.pictures.vom_raster.Kinds as raster-kinds
-use Rattle.c_calls.proofs.pictures.vom_raster.Reads as raster-reads
-use Rattle.c_calls.proofs.rasters.vom_raster_words.Kinds as raster-words-kinds
-use Rattle.c_calls.proofs.rasters.vom_raster_words.Reads as raster-words-reads
-use Rattle.c_calls.proofs.rasters.vom_marks.Kinds as marks-kinds
-use Rattle.c_calls.proofs.rasters.vom_marks.Reads as marks-reads
-use Rattle.c_calls.proofs.levels.vom_colour.Kinds as colour-kinds
-use Rattle.c_calls.proofs.levels.vom_colour.Reads as colour-reads
-use Rattle.c_calls.proofs.sounds.vom_sound.Kinds as sound-kinds
-use Rattle.c_calls.proofs.sounds.vom_sound.Reads as sound-reads
-use Rattle.c_calls.proofs.sounds.vom_sound_pair.Kinds as sound-pair-kinds
-use Rattle.c_calls.proofs.sounds.vom_sound_pair.Reads as sound-pair-reads
-use Rattle.c_calls.proofs.files.vom_read.Kinds as read-kinds
-use Rattle.c_calls.proofs.files.vom_read.Reads as read-reads
-use Rattle.c_calls.proofs.files.vom_copy.Kinds as copy-kinds
-use Rattle.c_calls.proofs.files.vom_copy.Reads as copy-reads
-use Rattle.c_calls.proofs.files.vom_write.Kinds as write-kinds
-use Rattle.c_calls.proofs.files.vom_write.Reads as write-reads
-use Rattle.c_calls.proofs.texts.vom_text.Kinds as text-kinds
-use Rattle.c_calls.proofs.texts.vom_text.Reads as text-reads
+use Rattle.refusals.specs.Table.{why, Told, given, refused}
+use Rattle.vombelishi.proofs.loads.vom_load.Kinds as load-kinds
+use Rattle.vombelishi.proofs.loads.vom_load.Reads as load-reads
+use Rattle.vombelishi.proofs.loads.vom_load_word.Kinds as load-word-kinds
+use Rattle.vombelishi.proofs.loads.vom_load_word.Reads as load-word-reads
+use Rattle.vombelishi.proofs.settings.vom_check.Kinds as check-kinds
+use Rattle.vombelishi.proofs.settings.vom_check.Reads as check-reads
+use Rattle.vombelishi.proofs.settings.vom_check_sound.Kinds as check-sound-kinds
+use Rattle.vombelishi.proofs.settings.vom_check_sound.Reads as check-sound-reads
+use Rattle.vombelishi.proofs.pictures.vom_frame.Kinds as frame-kinds
+use Rattle.vombelishi.proofs.pictures.vom_frame.Reads as frame-reads
+use Rattle.vombelishi.proofs.pictures.vom_raster.Kinds as raster-kinds
+use Rattle.vombelishi.proofs.pictures.vom_raster.Reads as raster-reads
+use Rattle.vombelishi.proofs.rasters.vom_raster_words.Kinds as raster-words-kinds
+use Rattle.vombelishi.proofs.rasters.vom_raster_words.Reads as raster-words-reads
+use Rattle.vombelishi.proofs.rasters.vom_marks.Kinds as marks-kinds
+use Rattle.vombelishi.proofs.rasters.vom_marks.Reads as marks-reads
+use Rattle.vombelishi.proofs.levels.vom_colour.Kinds as colour-kinds
+use Rattle.vombelishi.proofs.levels.vom_colour.Reads as colour-reads
+use Rattle.vombelishi.proofs.sounds.vom_sound.Kinds as sound-kinds
+use Rattle.vombelishi.proofs.sounds.vom_sound.Reads as sound-reads
+use Rattle.vombelishi.proofs.sounds.vom_sound_pair.Kinds as sound-pair-kinds
+use Rattle.vombelishi.proofs.sounds.vom_sound_pair.Reads as sound-pair-reads
+use Rattle.vombelishi.proofs.files.vom_read.Kinds as read-kinds
+use Rattle.vombelishi.proofs.files.vom_read.Reads as read-reads
+use Rattle.vombelishi.proofs.files.vom_copy.Kinds as copy-kinds
+use Rattle.vombelishi.proofs.files.vom_copy.Reads as copy-reads
+use Rattle.vombelishi.proofs.files.vom_write.Kinds as write-kinds
+use Rattle.vombelishi.proofs.files.vom_write.Reads as write-reads
+use Rattle.vombelishi.proofs.texts.vom_text.Kinds as text-kinds
+use Rattle.vombelishi.proofs.texts.vom_text.Reads as text-reads
 use Rattle.claims.specs.Calls.{Call, call}
 
 -- What a caller reads in the number that a call answers: 0 is success, else the refusal's number is above 2^32 and its detail below.
 abbrev pub saidBy : ℕ → Told (Unit {0})
-saidBy code = pick (eqb code 0) (given tt) (refused (code / 2 ^ 32) (code % 2 ^ 32))
+saidBy code = pick (eqb code 0) (given tt) (refused (why (code / 2 ^ 32) (code % 2 ^ 32)))
 
 -- Loading a list, or one word.
 pub record LoadRun (W : Type 0) : Type 0 where

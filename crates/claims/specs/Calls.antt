@@ -6,7 +6,7 @@ use mathlib.Core.Logic.{_⊎_, _↔_}
 use borrow.Fn.Kinds.{PK, RK, Out, Dens, resT, endedOf}
 use contract.Lifetimes.{Lfts}
 use denote.Triple.Clauses.{AtExit}
-use Rattle.registers.specs.Table.{Told, given, refused, Row, Passes, First}
+use Rattle.refusals.specs.Table.{Why, Told, given, refused, Row, Passes, First}
 
 -- What holds of every run that a call's promise permits.
 abbrev pub Always : (n : ℕ) (ps : List (PK n)) (r : RK n)
@@ -43,7 +43,7 @@ pub record Ran (c : Call) (run : c .Seen) : Type 0 where
 -- The numbers of a table, in its order.
 abbrev pub numbers : List Row → List ℕ
 numbers [] = []
-numbers (r ∷ rs) = r .number ∷ numbers rs
+numbers (r ∷ rs) = r .tells .number ∷ numbers rs
 
 abbrev pub OneOf : ℕ → List ℕ → Type 0
 OneOf n [] = ⊥
@@ -54,9 +54,9 @@ OneOf n (m ∷ ms) = (n ≡ m) ⊎ OneOf n ms
 pub record ByTable {A : Type 0} (t : Told A) (rows : List Row) (a : A) : Type 0 where
   pub given-when : (t ≡ given a) ↔ Passes rows
   pub given-what : (b : A) → t ≡ given b → b ≡ a
-  pub refused-when : (n d : ℕ) → (t ≡ refused n d) ↔ First rows n d
-  pub refused-with : (n d : ℕ) → t ≡ refused n d → OneOf n (numbers rows)
+  pub refused-when : (w : Why) → (t ≡ refused w) ↔ First rows w
+  pub refused-with : (w : Why) → t ≡ refused w → OneOf (w .number) (numbers rows)
 
 -- Nothing changes where a call is refused.
 abbrev pub Kept : {A B : Type 0} → Told A → B → B → Type 0
-Kept t before after = (n d : ℕ) → t ≡ refused n d → after ≡ before
+Kept t before after = (w : Why) → t ≡ refused w → after ≡ before

@@ -5,7 +5,7 @@ use mathlib.Core.Bool.{true, false}
 use mathlib.Core.List.{List, [], _∷_, _++_}
 use lib.ListN.{replicate}
 use lib.IntN.{pos, negsuc}
-use Rattle.registers.specs.Table.{given, refused}
+use Rattle.refusals.specs.Table.{why, given, refused}
 use Rattle.registers.specs.Record.{fresh, storedOf, writtenAt}
 use Rattle.registers.specs.Load.{applied}
 use Rattle.registers.specs.Geometry.{tenBits, pixelRate, depthOf}
@@ -16,7 +16,7 @@ use Rattle.registers.specs.Small.{timing, smallRegisters}
 use Rattle.registers.specs.declared.record.Registers.{Registers}
 use Rattle.colours.specs.Colour.{colourOf}
 use Rattle.colours.specs.Grey.{greyOf}
-use Rattle.frame.specs.Frame.{frameTold, rasterHeld}
+use Rattle.frame.specs.Frame.{frameTold, rasterLeaves}
 use Rattle.sound.specs.Amplitude.{signedOf}
 use Rattle.sound.specs.Values.{channelOf, counterAfter}
 use Rattle.sound.specs.Pair.{pairTold}
@@ -58,21 +58,21 @@ markedCases =
     -- 9: grey of FFFH is 255, of 00FH 85
     ∷ ((greyOf 0xFFF ≡ 255) × (greyOf 0x00F ≡ 85))
     -- 10: small plate, raster 3: border cells 36608, display cells 40960 to 40967
-    ∷ (rasterHeld smallRegisters smallVideo [] 3 (replicate 32 0)
+    ∷ (rasterLeaves smallRegisters smallVideo [] 3 (replicate 32 0)
     ≡ replicate 4 8192 ++ replicate 3 0 ++ replicate 4 36608
     ++ (40960 ∷ 40961 ∷ 40962 ∷ 40963 ∷ 40964 ∷ 40965 ∷ 40966 ∷ 40967 ∷ [])
     ++ replicate 4 36608 ++ replicate 9 0)
     -- 11: HBER 15 accepted (BE 31), 16 refused with 6
     ∷ ((checkTold (smallBut (timing 0x94 15)) ≡ given (settingOf (smallBut (timing 0x94 15))))
     × (settingOf (smallBut (timing 0x94 15)) .be .0 ≡ 31)
-    × (checkTold (smallBut (timing 0x94 16)) ≡ refused 6 0))
+    × (checkTold (smallBut (timing 0x94 16)) ≡ refused (why 6 0)))
     -- 12: HDER 2 refused with 6; HDER 5 (DE 17, width 6) with 8
-    ∷ ((checkTold (smallBut (timing 0x90 2)) ≡ refused 6 0)
-    × (checkTold (smallBut (timing 0x90 5)) ≡ refused 8 0)
+    ∷ ((checkTold (smallBut (timing 0x90 2)) ≡ refused (why 6 0))
+    × (checkTold (smallBut (timing 0x90 5)) ≡ refused (why 8 0))
     × (settingOf (smallBut (timing 0x90 5)) .de .0 ≡ 17)
     × (settingOf (smallBut (timing 0x90 5)) .de .0 - settingOf (smallBut (timing 0x90 5)) .ds .0 ≡ 6))
     -- 13: VDER 2 is display off, one video word then refused with 11
     ∷ ((checkTold (smallBut (timing 0xB0 2)) ≡ given (settingOf (smallBut (timing 0xB0 2))))
     × (displayOn (settingOf (smallBut (timing 0xB0 2))) ≡ false)
-    × (frameTold (smallBut (timing 0xB0 2)) smallVideo [] 192 ≡ refused 11 0))
+    × (frameTold (smallBut (timing 0xB0 2)) smallVideo [] 192 ≡ refused (why 11 0)))
     ∷ []

@@ -4,7 +4,7 @@ use mathlib.Core.Path.{_≡_}
 use mathlib.Core.List.{List}
 use lib.ListN.{length}
 use lib.Seq.{sets}
-use Rattle.registers.specs.Table.{Row, Passes, First}
+use Rattle.refusals.specs.Table.{Why, Row, Passes, First}
 use Rattle.claims.specs.Views.{PieceRun}
 
 -- These bytes stand at the front of lent memory, the rest of it is as it was, and their number is answered. Of no bytes: nothing changes, and 0 is answered.
@@ -12,6 +12,6 @@ abbrev pub Stored : PieceRun → List ℕ → Type 0
 Stored run text = (run .after ≡ sets (run .before) 0 text) × (run .bytes ≡ length text)
 
 -- What is asked for where no row's test holds, and what says the refusal where a row is the first whose test does.
-pub record StoredBy (run : PieceRun) (rows : List Row) (asked : List ℕ) (refusal : ℕ → ℕ → List ℕ) : Type 0 where
+pub record StoredBy (run : PieceRun) (rows : List Row) (asked : List ℕ) (refusal : Why → List ℕ) : Type 0 where
   pub given : Passes rows → Stored run asked
-  pub refused : (n d : ℕ) → First rows n d → Stored run (refusal n d)
+  pub refused : (w : Why) → First rows w → Stored run (refusal w)

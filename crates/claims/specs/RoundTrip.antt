@@ -4,7 +4,7 @@ use mathlib.Core.Path.{_≡_}
 use mathlib.Core.List.{List, _++_}
 use lib.ListN.{length}
 use lib.Seq.{sets, slice}
-use Rattle.registers.specs.Table.{given}
+use Rattle.refusals.specs.Table.{given}
 use Rattle.plates.specs.Plate.{sectionsBy}
 use Rattle.plates.specs.declared.Sections.{Sections}
 use Rattle.claims.specs.Calls.{Every}

@@ -4,7 +4,7 @@ use mathlib.Core.Bool.{not}
 use mathlib.Core.List.{List, [], _∷_, _++_}
 use lib.ListN.{length}
 use lib.Dec.{ltb, eqb}
-use Rattle.registers.specs.Table.{Row, row}
+use Rattle.refusals.specs.Table.{Row, row}
 use Rattle.registers.specs.Record.{slotOf, reserved}
 use Rattle.registers.specs.Load.{loadTable}
 use Rattle.registers.specs.Setting.{settingOf}

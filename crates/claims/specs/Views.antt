@@ -3,7 +3,8 @@ use Prim.Native.Nat.{ℕ}
 use mathlib.Core.List.{List}
 use lib.IntN.{ℤ}
 use denote.Ref.{ptr, now}
-use Rattle.registers.specs.Table.{Told, told}
+use Rattle.refusals.specs.Table.{Told}
+use Rattle.refusals.specs.Refusals.{answerSays}
 use Rattle.registers.specs.Check.{checkSays}
 use Rattle.registers.specs.declared.record.Registers.{Registers}
 use Rattle.registers.specs.declared.setting.Setting.{Setting}
@@ -30,14 +31,14 @@ use Rattle.stretch.proofs.raster_words.Kinds as words-kinds
 use Rattle.stretch.proofs.raster_words.Reads as words-reads
 use Rattle.stretch.proofs.raster_words_answer.Kinds as answer-kinds
 use Rattle.stretch.proofs.raster_words_answer.Reads as answer-reads
-use Rattle.sound.specs.Pair.{toldPair}
+use Rattle.sound.specs.Pair.{pairSays}
 use Rattle.sound.specs.declared.Sides.{Sides}
 use Rattle.sound.proofs.pair.Kinds as pair-kinds
 use Rattle.sound.proofs.pair.Reads as pair-reads
 use Rattle.sound.proofs.play.Kinds as play-kinds
 use Rattle.sound.proofs.play.Reads as play-reads
-use Rattle.plates.specs.Read.{toldRead}
-use Rattle.plates.specs.Write.{toldWritten}
+use Rattle.plates.specs.Read.{readSays}
+use Rattle.plates.specs.Write.{writeSays}
 use Rattle.plates.specs.declared.Sections.{Sections}
 use Rattle.plates.proofs.read.Kinds as read-kinds
 use Rattle.plates.proofs.read.Reads as read-reads
@@ -64,11 +65,11 @@ pub record LoadRun (W : Type 0) : Type 0 where
 
 abbrev pub loadWord : Call
 loadWord = call 0 load-word-kinds.ps load-word-kinds.r load-word-reads.Post (LoadRun ℕ)
-    λ κs a x s. record { registers = a .0; words = a .1 .0; answer = told (x .answer); loaded = x .registers }
+    λ κs a x s. record { registers = a .0; words = a .1 .0; answer = answerSays (x .answer); loaded = x .registers }
 
 abbrev pub load : Call
 load = call 1 load-kinds.ps load-kinds.r load-reads.Post (LoadRun (List ℕ))
-    λ κs a x s. record { registers = a .0; words = now (a .1 .0); answer = told (x .answer); loaded = x .registers }
+    λ κs a x s. record { registers = a .0; words = now (a .1 .0); answer = answerSays (x .answer); loaded = x .registers }
 
 -- Judging a record, for a picture or for sound.
 pub record CheckRun (A : Type 0) : Type 0 where
@@ -80,7 +81,7 @@ check = call 0 check-kinds.ps check-kinds.r check-reads.Post (CheckRun Setting) 
 
 abbrev pub checkSound : Call
 checkSound = call 0 check-sound-kinds.ps check-sound-kinds.r check-sound-reads.Post (CheckRun (Unit {0}))
-    λ κs a x s. record { registers = a .0; answer = told x }
+    λ κs a x s. record { registers = a .0; answer = answerSays x }
 
 -- The frame, one raster of it, and its mark count.
 pub record FrameRun : Type 0 where
@@ -97,7 +98,7 @@ frame = call 3 frame-kinds.ps frame-kinds.r frame-reads.Post FrameRun
       registers = a .0;
       video = now (a .1 .0);
       cursor = now (a .1 .1 .0);
-      answer = told x;
+      answer = answerSays x;
       before = now (a .1 .1 .1 .0);
       after = now (s .1 .1 .1 .0);
     }
@@ -118,7 +119,7 @@ raster = call 3 raster-kinds.ps raster-kinds.r raster-reads.Post RasterRun
       video = now (a .1 .0);
       cursor = now (a .1 .1 .0);
       raster = a .1 .1 .1 .0 .0;
-      answer = told x;
+      answer = answerSays x;
       before = now (a .1 .1 .1 .1 .0);
       after = now (s .1 .1 .1 .1 .0);
     }
@@ -147,7 +148,7 @@ find = call 1 find-kinds.ps find-kinds.r find-reads.Post (StretchRun Stretch)
 
 abbrev pub rasterWordsAnswer : Call
 rasterWordsAnswer = call 1 answer-kinds.ps answer-kinds.r answer-reads.Post (StretchRun (Unit {0}))
-    λ κs a x s. record { registers = a .0; video = now (a .1 .0); raster = a .1 .1 .0 .0; answer = told x }
+    λ κs a x s. record { registers = a .0; video = now (a .1 .0); raster = a .1 .1 .0 .0; answer = answerSays x }
 
 -- The words themselves. A list's place is its memory and the bytes before it there.
 pub record WordsRun : Type 0 where
@@ -185,7 +186,7 @@ play = call 2 play-kinds.ps play-kinds.r play-reads.Post PlayRun
       registers = a .0;
       words = now (a .1 .0);
       counter = a .1 .1 .0;
-      answer = told (x .answer);
+      answer = answerSays (x .answer);
       counted = x .counter;
       before = now (a .1 .1 .1 .0);
       after = now (s .1 .1 .1 .0);
@@ -197,7 +198,7 @@ pub record PairRun : Type 0 where
   pub answer : Told Sides
 
 abbrev pub pair : Call
-pair = call 0 pair-kinds.ps pair-kinds.r pair-reads.Post PairRun λ κs a x s. record { byte = a .0; stereo = a .1 .0; answer = toldPair x }
+pair = call 0 pair-kinds.ps pair-kinds.r pair-reads.Post PairRun λ κs a x s. record { byte = a .0; stereo = a .1 .0; answer = pairSays x }
 
 -- Plate files: read, copied out, written.
 pub record ReadRun : Type 0 where
@@ -205,7 +206,7 @@ pub record ReadRun : Type 0 where
   pub answer : Told Sections
 
 abbrev pub read : Call
-read = call 1 read-kinds.ps read-kinds.r read-reads.Post ReadRun λ κs a x s. record { file = now (a .0); answer = toldRead x }
+read = call 1 read-kinds.ps read-kinds.r read-reads.Post ReadRun λ κs a x s. record { file = now (a .0); answer = readSays x }
 
 pub record CopyRun : Type 0 where
   pub file : List ℕ
@@ -215,7 +216,7 @@ pub record CopyRun : Type 0 where
 
 abbrev pub copyOut : Call
 copyOut = call 2 copy-kinds.ps copy-kinds.r copy-reads.Post CopyRun
-    λ κs a x s. record { file = now (a .0); answer = told x; before = now (a .1 .0); after = now (s .1 .0) }
+    λ κs a x s. record { file = now (a .0); answer = answerSays x; before = now (a .1 .0); after = now (s .1 .0) }
 
 pub record WriteRun : Type 0 where
   pub registers : List ℕ
@@ -233,7 +234,7 @@ write = call 5 write-kinds.ps write-kinds.r write-reads.Post WriteRun
       video = now (a .1 .0);
       cursor = now (a .1 .1 .0);
       sound = now (a .1 .1 .1 .0);
-      answer = toldWritten x;
+      answer = writeSays x;
       before = now (a .1 .1 .1 .1 .0);
       after = now (s .1 .1 .1 .1 .0);
     }

@@ -9,14 +9,14 @@ use lib.Dec.{eqb}
 use lib.ListN.{length}
 use Rattle.buffers.specs.Painted.{painted}
 use Rattle.buffers.proofs.Tests.{or-neither}
-use Rattle.registers.specs.Table.{Told, given, refused, judged, unlessRefused}
+use Rattle.refusals.specs.Table.{Why, Told, given, refused, judged, unlessRefused}
 use Rattle.registers.specs.Setting.{videoWords, cursorWords}
 use Rattle.registers.specs.Check.{checkTold}
 use Rattle.registers.specs.declared.record.Registers.{Registers}
 use Rattle.registers.specs.declared.setting.Setting.{Setting}
 use Rattle.registers.proofs.Accepted.{Accepted}
 use Rattle.registers.proofs.Exactly.{accepted-setting}
-use Rattle.frame.specs.Frame.{wordsWrong, cells, frameCell, frameTable, frameTold, frameHeld, rasterCell, rasterTable, rasterTold, rasterHeld}
+use Rattle.frame.specs.Frame.{wordsWrong, cells, frameCell, frameTable, frameTold, frameLeaves, rasterCell, rasterTable, rasterTold, rasterLeaves}
 use Rattle.frame.specs.Lent.{Lent}
 
 pub cells-most : (s : Setting) → Accepted s → cells s ≤ 2048 * 1024
@@ -34,23 +34,23 @@ lent-by {s} {end} {video} {cursor} a room e =
     record { accepted = a; room = room; video-words = w .0; cursor-words = w .1 }
 
 module _ (g : Registers) (video cursor o : List ℕ) where
-  pub frame-refused : (n d : ℕ) → checkTold g ≡ refused n d → (refused n d ≡ frameTold g video cursor (length o)) × (o ≡ frameHeld g video cursor o)
-  unfolding frameTold frameHeld
-  frame-refused n d e = (rw e, rw e)
+  pub frame-refused : (w : Why) → checkTold g ≡ refused w → (refused w ≡ frameTold g video cursor (length o)) × (o ≡ frameLeaves g video cursor o)
+  unfolding frameTold frameLeaves
+  frame-refused w e = (rw e, rw e)
 
   pub frame-judged : (s : Setting) (t : Told (Unit {0})) (p : List ℕ) → checkTold g ≡ given s → t ≡ judged (frameTable s video cursor (length o)) tt
-      → p ≡ unlessRefused t o (painted o 0 (cells s) (frameCell g s video cursor)) → (t ≡ frameTold g video cursor (length o)) × (p ≡ frameHeld g video cursor o)
-  unfolding frameTold frameHeld
+      → p ≡ unlessRefused t o (painted o 0 (cells s) (frameCell g s video cursor)) → (t ≡ frameTold g video cursor (length o)) × (p ≡ frameLeaves g video cursor o)
+  unfolding frameTold frameLeaves
   frame-judged s t p e f h =
       (rw e f, rw e (h ∙ rw (f, ← accepted-setting g s e)))
 
-  pub raster-refused : (y n d : ℕ) → checkTold g ≡ refused n d → (refused n d ≡ rasterTold g video cursor y (length o)) × (o ≡ rasterHeld g video cursor y o)
-  unfolding rasterTold rasterHeld
-  raster-refused y n d e = (rw e, rw e)
+  pub raster-refused : (y : ℕ) (w : Why) → checkTold g ≡ refused w → (refused w ≡ rasterTold g video cursor y (length o)) × (o ≡ rasterLeaves g video cursor y o)
+  unfolding rasterTold rasterLeaves
+  raster-refused y w e = (rw e, rw e)
 
   pub raster-judged : (y : ℕ) (s : Setting) (t : Told (Unit {0})) (p : List ℕ) → checkTold g ≡ given s → t ≡ judged (rasterTable s video cursor y (length o)) tt
-      → p ≡ unlessRefused t o (painted o 0 (s .n .0) (rasterCell g s video cursor y)) → (t ≡ rasterTold g video cursor y (length o)) × (p ≡ rasterHeld g video cursor y o)
-  unfolding rasterTold rasterHeld
+      → p ≡ unlessRefused t o (painted o 0 (s .n .0) (rasterCell g s video cursor y)) → (t ≡ rasterTold g video cursor y (length o)) × (p ≡ rasterLeaves g video cursor y o)
+  unfolding rasterTold rasterLeaves
   raster-judged y s t p e f h =
       (rw e f, rw e (h ∙ rw (f, ← accepted-setting g s e)))
 
@@ -60,6 +60,6 @@ module _ (g : Registers) (s : Setting) (video cursor : List ℕ) (y : ℕ) (e : 
   unfolding rasterTold
   raster-told room h = rw (e, w, lt-leb _ _ here, le-ltb _ _ h)
 
-  pub raster-held : (o : List ℕ) → s .n .0 ≤ length o → rasterHeld g video cursor y o ≡ painted o 0 (s .n .0) (rasterCell g s video cursor y)
-  unfolding rasterHeld
+  pub raster-held : (o : List ℕ) → s .n .0 ≤ length o → rasterLeaves g video cursor y o ≡ painted o 0 (s .n .0) (rasterCell g s video cursor y)
+  unfolding rasterLeaves
   raster-held o h = rw (raster-told (length o) h, ← accepted-setting g s e)

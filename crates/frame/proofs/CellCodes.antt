@@ -61,7 +61,7 @@ uncovered true p = refl
 uncovered false p = refl
 
 -- A position of the display.
-pub record Displayed (s : Setting) (x y : ℕ) : Type 0 where
+pub record InDisplay (s : Setting) (x y : ℕ) : Type 0 where
   pub on : displayOn s ≡ true
   pub ds-x : s .ds .0 ≤ x
   pub x-de : x < s .de .0
@@ -78,7 +78,7 @@ pub record Covered (s : Setting) (cursor : List ℕ) (x y : ℕ) : Type 0 where
   pub shown : eqb (cursorPair s cursor y (x - s .cx .0)) 0 ≡ false
 
 module _ (s : Setting) (x y : ℕ) where
-  pub displayed : inDisplay s x y ≡ true → Displayed s x y
+  pub displayed : inDisplay s x y ≡ true → InDisplay s x y
   displayed e =
       let p = and-split (displayOn s && within (s .ds .0) (s .de .0) x) (within (s .vds .0) (s .vde .0) y) e in
       let q = and-split (displayOn s) (within (s .ds .0) (s .de .0) x) (p .0) in
@@ -86,7 +86,7 @@ module _ (s : Setting) (x y : ℕ) where
       let v = between (s .vds .0) (s .vde .0) y (p .1) in
       record { on = q .0; ds-x = h .0; x-de = h .1; vds-y = v .0; y-vde = v .1 }
 
-  pub in-display : Displayed s x y → inDisplay s x y ≡ true
+  pub in-display : InDisplay s x y → inDisplay s x y ≡ true
   in-display d =
       rw (d .on, betweens (s .ds .0) (s .de .0) x (d .ds-x) (d .x-de), betweens (s .vds .0) (s .vde .0) y (d .vds-y) (d .y-vde))
 

@@ -11,11 +11,11 @@ use Rattle.registers.specs.Check.{checkTold}
 use Rattle.registers.specs.Small.{smallRegisters}
 use Rattle.frame.specs.Pixel.{pixel, cursorPair}
 use Rattle.frame.specs.Cell.{plainCode, covered, code, cell}
-use Rattle.frame.specs.Frame.{rasterCell, rasterTold, rasterHeld}
+use Rattle.frame.specs.Frame.{rasterCell, rasterTold, rasterLeaves}
 
-pub raster-three : rasterHeld smallRegisters (0x76543210 ∷ []) [] 3 (replicate 33 7)
+pub raster-three : rasterLeaves smallRegisters (0x76543210 ∷ []) [] 3 (replicate 33 7)
     ≡ replicate 4 8192 ++ replicate 3 0 ++ replicate 4 36608
     ++ (40960 ∷ 40961 ∷ 40962 ∷ 40963 ∷ 40964 ∷ 40965 ∷ 40966 ∷ 40967 ∷ [])
     ++ replicate 4 36608 ++ replicate 9 0 ++ (7 ∷ [])
-unfolding eachFrom painted reserved storedOf applied lowest settingOf videoWords cursorWords checkTold pixel cursorPair plainCode covered code cell rasterCell rasterTold rasterHeld
+unfolding eachFrom painted reserved storedOf applied lowest settingOf videoWords cursorWords checkTold pixel cursorPair plainCode covered code cell rasterCell rasterTold rasterLeaves
 raster-three = refl

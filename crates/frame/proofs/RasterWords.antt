@@ -14,7 +14,7 @@ use Rattle.registers.specs.declared.setting.Setting.{Setting}
 use Rattle.frame.specs.Pixel.{firstWord}
 use Rattle.registers.proofs.Accepted.{Depth, Accepted}
 use Rattle.registers.proofs.Words.{depth-least, depth-most, raster-bits, video-rasters}
-use Rattle.frame.specs.Lent.{Raster}
+use Rattle.frame.specs.Lent.{RasterLent}
 use Rattle.frame.proofs.PixelPlaces.{per-least, past-bytes, past-pixels, byte-part}
 use Rattle.frame.specs.Ink.{from, wordsInk, displayInk}
 
@@ -86,7 +86,7 @@ module _ (s : Setting) (r : Accepted s) where
       let len : length (take (rasterWords s) (drop (firstWord s y) video)) ≡ rasterWords s = simp (length-take, length-drop) (omega arith) in
       rw (n, e-first, e-ds, len, whole-pixels) (omega (arith, r .ds-de, r .de-be, r .be-n))
 
-pub words-lie : {s : Setting} {at : ℕ} {video out : List ℕ} (y : ℕ) → Raster s at video out → s .vds .0 ≤ y → y < s .vde .0
+pub words-lie : {s : Setting} {at : ℕ} {video out : List ℕ} (y : ℕ) → RasterLent s at video out → s .vds .0 ≤ y → y < s .vde .0
     → firstWord s y + rasterWords s ≤ length video
 words-lie {s} y r p q = rw (r .words) (raster-room s (r .accepted) y p q)
 

@@ -14,7 +14,7 @@ use Rattle.buffers.proofs.Paints.{Paints, paint-as, paint-more, paint-next, pai
 use Rattle.registers.specs.declared.setting.Setting.{Setting}
 use Rattle.registers.proofs.Accepted.{Accepted}
 use Rattle.frame.specs.Cell.{within, inDisplay}
-use Rattle.frame.specs.Lent.{Raster}
+use Rattle.frame.specs.Lent.{RasterLent}
 use Rattle.frame.specs.Ink.{from, cellIn, displayInk, linedInk, blankOf}
 use Rattle.frame.proofs.Regions.{Inside, within-true, true-within, display-inside, inside-display}
 
@@ -66,5 +66,5 @@ pub blank-most : (s : Setting) (y : ℕ) → blankOf s y ≤ 16384
 blank-most s y = elim (lt-or-le y (s .vs .0)) [ inl h ↦ rw (lt-ltb y (s .vs .0) h) (omega arith) | inr h ↦ rw (le-ltb y (s .vs .0) h) (omega arith) ]
 
 -- Painting leaves room and words as they were.
-pub raster-kept : {s : Setting} {at : ℕ} {video o p : List ℕ} (a b : ℕ) (f : ℕ → ℕ) → Raster s at video o → p ≡ painted o a b f → Raster s at video p
+pub raster-kept : {s : Setting} {at : ℕ} {video o p : List ℕ} (a b : ℕ) (f : ℕ → ℕ) → RasterLent s at video o → p ≡ painted o a b f → RasterLent s at video p
 raster-kept {o = o} a b f r e = record { accepted = r .accepted; room = rw (ap length e ∙ length-painted o a b f) (r .room); words = r .words }

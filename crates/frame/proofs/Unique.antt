@@ -2,7 +2,7 @@
 use mathlib.Core.Path.{sym, _∙_}
 use denote.Ref.{now}
 use Rattle.buffers.proofs.Coincide.{OneAnswer, OneState}
-use Rattle.registers.proofs.Told.{same-answer}
+use Rattle.refusals.proofs.Told.{same-answer}
 use Rattle.frame.proofs.frame.Kinds as frame-kinds
 use Rattle.frame.proofs.frame.Reads as frame-reads
 use Rattle.frame.proofs.raster.Kinds as raster-kinds

@@ -5,7 +5,7 @@ use mathlib.Core.List.{List, [], _∷_}
 use lib.ListN.{length}
 use lib.Dec.{ltb, leb, eqb}
 use Rattle.buffers.specs.Painted.{painted}
-use Rattle.registers.specs.Table.{Told, Row, row, judged, andThen, unlessRefused}
+use Rattle.refusals.specs.Table.{Told, Row, row, judged, andThen, unlessRefused}
 use Rattle.registers.specs.Setting.{settingOf, videoWords, cursorWords}
 use Rattle.registers.specs.Check.{checkTold}
 use Rattle.registers.specs.declared.record.Registers.{Registers}
@@ -37,8 +37,8 @@ unfoldable pub frameTold : Registers → List ℕ → List ℕ → ℕ → Told 
 frameTold g video cursor room = andThen (checkTold g) (λ s. judged (frameTable s video cursor room) tt)
 
 -- What the lent cells hold after the call.
-unfoldable pub frameHeld : Registers → List ℕ → List ℕ → List ℕ → List ℕ
-frameHeld g video cursor out =
+unfoldable pub frameLeaves : Registers → List ℕ → List ℕ → List ℕ → List ℕ
+frameLeaves g video cursor out =
     unlessRefused (frameTold g video cursor (length out)) out
     (painted out 0 (cells (settingOf g)) (frameCell g (settingOf g) video cursor))
 
@@ -56,7 +56,7 @@ rasterTable s video cursor y room =
 unfoldable pub rasterTold : Registers → List ℕ → List ℕ → ℕ → ℕ → Told (Unit {0})
 rasterTold g video cursor y room = andThen (checkTold g) (λ s. judged (rasterTable s video cursor y room) tt)
 
-unfoldable pub rasterHeld : Registers → List ℕ → List ℕ → ℕ → List ℕ → List ℕ
-rasterHeld g video cursor y out =
+unfoldable pub rasterLeaves : Registers → List ℕ → List ℕ → ℕ → List ℕ → List ℕ
+rasterLeaves g video cursor y out =
     unlessRefused (rasterTold g video cursor y (length out)) out
     (painted out 0 (settingOf g .n .0) (rasterCell g (settingOf g) video cursor y))

@@ -15,7 +15,7 @@ pub record Lent (s : Setting) (end : ℕ) (video cursor out : List ℕ) : Type 0
   pub cursor-words : length cursor ≡ cursorWords s
 
 -- The same for a raster from place `at` on with no cursor, and for the cursor alone.
-pub record Raster (s : Setting) (at : ℕ) (video out : List ℕ) : Type 0 where
+pub record RasterLent (s : Setting) (at : ℕ) (video out : List ℕ) : Type 0 where
   pub accepted : Accepted s
   pub room : at + s .n .0 ≤ length out
   pub words : length video ≡ videoWords s

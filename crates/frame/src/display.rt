@@ -9,7 +9,7 @@ ghost use Rattle.buffers.specs.Painted.{painted};
 ghost use Rattle.registers.specs.Setting.{rasterWords};
 ghost use Rattle.frame.specs.Pixel.{firstWord};
 ghost use Rattle.registers.proofs.Accepted.{Accepted};
-ghost use Rattle.frame.specs.Lent.{Raster};
+ghost use Rattle.frame.specs.Lent.{RasterLent};
 ghost use Rattle.frame.specs.Made.{Tables};
 ghost use Rattle.frame.specs.Ink.{from, displayInk};
 
@@ -38,7 +38,7 @@ pub fn display(
     quads: &[u64; 1024],
     video: &[u32],
 )
-    requires { ⌜ Raster s at (now video) (now out) × (s .vds .0 ≤ y .0) × (y .0 < s .vde .0) × Tables (s .depth) (now table) (now quads) ⌝ }
+    requires { ⌜ RasterLent s at (now video) (now out) × (s .vds .0 ≤ y .0) × (y .0 < s .vde .0) × Tables (s .depth) (now table) (now quads) ⌝ }
     ensures { λ _. ⌜ now (out .exit) ≡ painted (now (out .entry)) (at + s .ds .0) (at + s .de .0)
         (from at (displayInk s (now (table .entry)) (now (video .entry)) (y .0))) ⌝ }
 {

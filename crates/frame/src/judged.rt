@@ -3,15 +3,16 @@ use crate::inks::paint;
 use crate::units::wide;
 use crate::words_wrong;
 use registers::record::Registers;
-use registers::refusal::Answer;
-use registers::refusal::Refusal;
+use refusals::Answer;
+use refusals::Refusal;
 use registers::setting::Setting;
 use registers::units::Rasters;
 ghost use mathlib.Core.Path.{_≡_};
 ghost use lib.ListN.{length};
 ghost use Rattle.buffers.specs.Painted.{painted};
 ghost use Rattle.registers.proofs.Accepted.{Accepted};
-ghost use Rattle.registers.specs.Table.{told, judged, unlessRefused};
+ghost use Rattle.refusals.specs.Table.{judged, unlessRefused};
+ghost use Rattle.refusals.specs.Refusals.{answerSays};
 ghost use Rattle.frame.specs.Frame.{cells, frameCell, frameTable, rasterCell, rasterTable};
 
 // How many cells a frame has.
@@ -30,8 +31,8 @@ pub fn judged_frame(
     out: &mut [u16],
 ) -> Answer
     requires { ⌜ Accepted s ⌝ }
-    ensures { λ r. ⌜ (told r ≡ judged (frameTable s (now (video .entry)) (now (cursor .entry)) (length (now (out .entry)))) tt)
-        × (now (out .exit) ≡ unlessRefused (told r) (now (out .entry)) (painted (now (out .entry)) 0 (cells s)
+    ensures { λ r. ⌜ (answerSays r ≡ judged (frameTable s (now (video .entry)) (now (cursor .entry)) (length (now (out .entry)))) tt)
+        × (now (out .exit) ≡ unlessRefused (answerSays r) (now (out .entry)) (painted (now (out .entry)) 0 (cells s)
         (frameCell g s (now (video .entry)) (now (cursor .entry))))) ⌝ }
 {
     if words_wrong(s, video, cursor) {
@@ -53,8 +54,8 @@ pub fn judged_raster(
     out: &mut [u16],
 ) -> Answer
     requires { ⌜ Accepted s ⌝ }
-    ensures { λ r. ⌜ (told r ≡ judged (rasterTable s (now (video .entry)) (now (cursor .entry)) (y .0) (length (now (out .entry)))) tt)
-        × (now (out .exit) ≡ unlessRefused (told r) (now (out .entry)) (painted (now (out .entry)) 0 (s .n .0)
+    ensures { λ r. ⌜ (answerSays r ≡ judged (rasterTable s (now (video .entry)) (now (cursor .entry)) (y .0) (length (now (out .entry)))) tt)
+        × (now (out .exit) ≡ unlessRefused (answerSays r) (now (out .entry)) (painted (now (out .entry)) 0 (s .n .0)
         (rasterCell g s (now (video .entry)) (now (cursor .entry)) (y .0)))) ⌝ }
 {
     if words_wrong(s, video, cursor) {

@@ -3,13 +3,13 @@ use judged::judged_frame;
 use judged::judged_raster;
 use registers::check::Checked;
 use registers::record::Registers;
-use registers::refusal::Answer;
+use refusals::Answer;
 use registers::setting::Setting;
 use registers::units::Rasters;
 ghost use mathlib.Core.Path.{_≡_};
 ghost use lib.ListN.{length};
-ghost use Rattle.registers.specs.Table.{told};
-ghost use Rattle.frame.specs.Frame.{wordsWrong, frameTold, frameHeld, rasterTold, rasterHeld};
+ghost use Rattle.refusals.specs.Refusals.{answerSays};
+ghost use Rattle.frame.specs.Frame.{wordsWrong, frameTold, frameLeaves, rasterTold, rasterLeaves};
 
 mod bytes;
 mod cursor;
@@ -34,8 +34,8 @@ pub fn words_wrong(s: Setting, video: &[u32], cursor: &[u32]) -> bool
 
 // All N·V cells of a frame, raster after raster; the lent cells beyond are untouched. Refusals 3 to 9, 11, 13.
 pub fn frame(g: Registers, video: &[u32], cursor: &[u32], out: &mut [u16]) -> Answer
-    ensures { λ r. ⌜ (told r ≡ frameTold g (now (video .entry)) (now (cursor .entry)) (length (now (out .entry))))
-        × (now (out .exit) ≡ frameHeld g (now (video .entry)) (now (cursor .entry)) (now (out .entry))) ⌝ }
+    ensures { λ r. ⌜ (answerSays r ≡ frameTold g (now (video .entry)) (now (cursor .entry)) (length (now (out .entry))))
+        × (now (out .exit) ≡ frameLeaves g (now (video .entry)) (now (cursor .entry)) (now (out .entry))) ⌝ }
 {
     let checked = g.check();
     match checked {
@@ -46,8 +46,8 @@ pub fn frame(g: Registers, video: &[u32], cursor: &[u32], out: &mut [u16]) -> An
 
 // The N cells of raster y. Refusals 3 to 9, 11, 12, 13.
 pub fn raster(g: Registers, video: &[u32], cursor: &[u32], y: Rasters, out: &mut [u16]) -> Answer
-    ensures { λ r. ⌜ (told r ≡ rasterTold g (now (video .entry)) (now (cursor .entry)) (y .0) (length (now (out .entry))))
-        × (now (out .exit) ≡ rasterHeld g (now (video .entry)) (now (cursor .entry)) (y .0) (now (out .entry))) ⌝ }
+    ensures { λ r. ⌜ (answerSays r ≡ rasterTold g (now (video .entry)) (now (cursor .entry)) (y .0) (length (now (out .entry))))
+        × (now (out .exit) ≡ rasterLeaves g (now (video .entry)) (now (cursor .entry)) (y .0) (now (out .entry))) ⌝ }
 {
     let checked = g.check();
     match checked {

@@ -9,7 +9,7 @@ ghost use mathlib.Core.Path.{_≡_};
 ghost use Prim.Native.Nat.{_+_, _≤_};
 ghost use lib.ListN.{length};
 ghost use Rattle.buffers.specs.Painted.{painted};
-ghost use Rattle.frame.specs.Lent.{Raster};
+ghost use Rattle.frame.specs.Lent.{RasterLent};
 ghost use Rattle.frame.specs.Made.{Tables};
 ghost use Rattle.frame.specs.Ink.{from, cellIn, linedInk};
 
@@ -36,7 +36,7 @@ pub fn plain(
     quads: &[u64; 1024],
     video: &[u32],
 )
-    requires { ⌜ Raster s at (now video) (now out) × Tables (s .depth) (now table) (now quads) ⌝ }
+    requires { ⌜ RasterLent s at (now video) (now out) × Tables (s .depth) (now table) (now quads) ⌝ }
     ensures { λ _. ⌜ now (out .exit) ≡ painted (now (out .entry)) at (at + s .n .0)
         (from at (linedInk s (now (line .entry)) (now (table .entry)) (now (video .entry)) (y .0))) ⌝ }
 {

@@ -8,8 +8,8 @@ use plates::Reading;
 use plates::Sections;
 use registers::check::Checked;
 use registers::record::Registers;
-use registers::refusal::Answer;
-use registers::refusal::Refusal;
+use refusals::Answer;
+use refusals::Refusal;
 ghost use Prim.Native.Nat.{_≤_};
 ghost use lib.ListN.{length};
 

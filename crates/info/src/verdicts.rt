@@ -4,8 +4,8 @@ use crate::names::put_register;
 use crate::terms::put_depth;
 use crate::words::address_of;
 use registers::record::Registers;
-use registers::refusal::Answer;
-use registers::refusal::Refusal;
+use refusals::Answer;
+use refusals::Refusal;
 use registers::setting::Setting;
 
 // A number of those that a rule compares.

@@ -3,12 +3,13 @@ use Prim.Native.Nat.{ℕ}
 use mathlib.Core.Bool.{Bool, true, false}
 use mathlib.Core.List.{List}
 use mathlib.Core.Path.{_≡_, sym, _∙_, ap}
-use Rattle.registers.specs.Table.{given, refusal}
+use Rattle.refusals.specs.Table.{given}
+use Rattle.refusals.specs.Refusals.{refusal}
 use Rattle.registers.specs.Check.{checkTold, checkSays}
 use Rattle.registers.specs.declared.record.Registers.{Registers}
 use Rattle.registers.specs.declared.setting.Setting.{Setting}
-use Rattle.registers.specs.declared.refusal.Refusal.{Refusal}
-use Rattle.registers.specs.declared.refusal.Refusal.the-variants.{WordCount}
+use Rattle.refusals.specs.declared.Refusal.{Refusal}
+use Rattle.refusals.specs.declared.Refusal.the-variants.{WordCount}
 use Rattle.registers.specs.declared.check.Checked.{Checked}
 use Rattle.registers.specs.declared.check.Checked.the-variants as checked
 use Rattle.registers.proofs.Accepted.{accepted}

@@ -10,7 +10,7 @@ use Rattle.registers.proofs.Accepted.{Depth}
 use Rattle.registers.proofs.Words.{depth-least}
 use Rattle.frame.proofs.PixelPlaces.{fills-byte, low-field, pixel-in}
 use Rattle.marks.specs.Count.{total}
-use Rattle.marks.specs.Bright.{Tabled, field, fieldBright, byteBright, pixelBright, wordBright, wordAt}
+use Rattle.marks.specs.Bright.{Tabled, field, fieldBright, byteBright, pixelBright, wordBright, wordBrightAt}
 use Rattle.marks.proofs.Totals.{total-as, total-rows}
 
 -- Pixel j of a word's byte b.
@@ -51,9 +51,9 @@ module _ (pixels bytes : List ℕ) (d : ℕ) (h : Depth d) (t : Tabled bytes 256
       ap (λ p. getD pixels p 0) (pixel-in ws d (q * (4 * (8 / d)) + j) q (j * d) bits room)
 
   -- The bright pixels of m words.
-  pub words-total : (ws : List ℕ) (m : ℕ) → total (pixelBright pixels ws d) (m * (4 * (8 / d))) ≡ total (wordAt bytes ws) m
+  pub words-total : (ws : List ℕ) (m : ℕ) → total (pixelBright pixels ws d) (m * (4 * (8 / d))) ≡ total (wordBrightAt bytes ws) m
   words-total ws m =
       total-rows (pixelBright pixels ws d) m (4 * (8 / d))
-      ∙ total-as (λ q. total (λ j. pixelBright pixels ws d (q * (4 * (8 / d)) + j)) (4 * (8 / d))) (wordAt bytes ws) m
+      ∙ total-as (λ q. total (λ j. pixelBright pixels ws d (q * (4 * (8 / d)) + j)) (4 * (8 / d))) (wordBrightAt bytes ws) m
       (λ q l. total-as (λ j. pixelBright pixels ws d (q * (4 * (8 / d)) + j)) (fieldBright pixels d (getD ws q 0)) (4 * (8 / d)) (word-pixel ws q)
       ∙ word-total (getD ws q 0))

@@ -15,7 +15,7 @@ use Rattle.registers.proofs.Words.{video-rasters}
 use Rattle.frame.proofs.RasterWords.{four-bytes, whole-pixels}
 use Rattle.marks.specs.Count.{total}
 use Rattle.marks.specs.Marks.{marksOf}
-use Rattle.marks.specs.Bright.{Tabled, bright, byteBright, pixelBright, wordAt, coveredBright, cursorRaster, coveredAll}
+use Rattle.marks.specs.Bright.{Tabled, bright, byteBright, pixelBright, wordBrightAt, coveredBright, cursorRaster, coveredAll}
 use Rattle.marks.proofs.Bytes.{words-total}
 use Rattle.marks.proofs.Points.{markIn, displayBright, point}
 use Rattle.marks.proofs.Rows.{rowsTotal, marks-rows, rows-add, display-total, display-off, covered-total, covered-off}
@@ -35,19 +35,19 @@ module _ (s : Setting) (a : Accepted s) where
         (λ y x. point g s video cursor threshold x y pixels a t)
 
     module _ (bytes : List ℕ) (u : Tabled bytes 256 (byteBright pixels (s .depth))) (e : length video ≡ videoWords s) where
-      display-bright : (on : Bool) → displayOn s ≡ on → rowsTotal s (displayBright s video pixels) ≡ total (wordAt bytes video) (length video)
+      display-bright : (on : Bool) → displayOn s ≡ on → rowsTotal s (displayBright s video pixels) ≡ total (wordBrightAt bytes video) (length video)
       unfolding total
       display-bright true on =
           display-total s a video cursor pixels on
           ∙ ap (total (pixelBright pixels video (s .depth))) (display-pixels (length video) on e)
           ∙ words-total pixels bytes (s .depth) (a .depth) u video (length video)
-      display-bright false off = display-off s a video cursor pixels off ∙ sym (ap (total (wordAt bytes video)) (e ∙ video-off s off))
+      display-bright false off = display-off s a video cursor pixels off ∙ sym (ap (total (wordBrightAt bytes video)) (e ∙ video-off s off))
 
       cursor-bright : (on : Bool) → s .cursor ≡ on
           → rowsTotal s (coveredBright s video cursor pixels) ≡ pick on (total (cursorRaster s video cursor pixels) (s .vce .0 - s .vcs .0)) 0
       cursor-bright true on = covered-total s a video cursor pixels on
       cursor-bright false off = covered-off s a video cursor pixels off
 
-      pub counted : marksOf g s video cursor threshold + coveredAll s video cursor pixels ≡ total (wordAt bytes video) (length video)
+      pub counted : marksOf g s video cursor threshold + coveredAll s video cursor pixels ≡ total (wordBrightAt bytes video) (length video)
       unfolding coveredAll
       counted = omega (arith, marks-covered, display-bright (displayOn s) refl, cursor-bright (s .cursor) refl)

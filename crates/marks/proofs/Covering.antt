@@ -21,12 +21,12 @@ use Rattle.registers.proofs.Words.{raster-bits, depth-least, depth-most, video-
 use Rattle.frame.specs.Pixel.{pixel, position, logical, cursorPair}
 use Rattle.frame.specs.Cell.{inDisplay, plainCode, covered}
 use Rattle.frame.proofs.PixelPlaces.{pixel-below}
-use Rattle.frame.proofs.CellCodes.{Displayed, Covered, displayed, in-display, is-covered, five-covered, plain-five}
+use Rattle.frame.proofs.CellCodes.{InDisplay, Covered, displayed, in-display, is-covered, five-covered, plain-five}
 use Rattle.marks.specs.Bright.{Ready, OnCursor, cursorBright, rasterBright, cursorRaster, coveredAll}
 use Rattle.marks.specs.Count.{total}
 use Rattle.marks.proofs.Totals.{total-none}
 
-module _ (s : Setting) (x y : ℕ) (a : Accepted s) (h : Displayed s x y) where
+module _ (s : Setting) (x y : ℕ) (a : Accepted s) (h : InDisplay s x y) where
   pub rows-small : (y - s .vds .0) * (s .de .0 - s .ds .0) < 1025 * 2049
   rows-small =
       let v = a .display (h .on) in
@@ -52,7 +52,7 @@ pixel-entry s ws i a = omega (arith, pixel-below ws (s .depth) i, pow-mono {j = 
 
 module _ (s : Setting) (video cursor pixels : List ℕ) (a : Accepted s) (y i : ℕ) where
   -- Outside the display, and where the pair is 00, nothing is covered.
-  pub cursor-out : (Displayed s (s .cx .0 + i) y → ⊥) → 0 ≡ cursorBright s video cursor pixels y i
+  pub cursor-out : (InDisplay s (s .cx .0 + i) y → ⊥) → 0 ≡ cursorBright s video cursor pixels y i
   unfolding cursorBright
   cursor-out h =
       let off : eqb (plainCode s (s .cx .0 + i) y) 5 ≡ false = plain-five s (s .cx .0 + i) y a ∙ is-false (inDisplay s (s .cx .0 + i) y) (λ e. h (displayed s (s .cx .0 + i) y e)) in
@@ -68,7 +68,7 @@ module _ (s : Setting) (video cursor pixels : List ℕ) (a : Accepted s) (y i : 
       (λ t. no (sym (is-covered s x y cursor (and-split (eqb (plainCode s x y) 5) (covered s cursor x y) t .1) .shown) ∙ eq-eqb (cursorPair s cursor y (x - s .cx .0)) 0 back)) in
       rw off
 
-  pub cursor-shown : Displayed s (s .cx .0 + i) y → Covered s cursor (s .cx .0 + i) y
+  pub cursor-shown : InDisplay s (s .cx .0 + i) y → Covered s cursor (s .cx .0 + i) y
       → getD pixels (logical s video (s .cx .0 + i) y) 0 ≡ cursorBright s video cursor pixels y i
   unfolding cursorBright
   cursor-shown d c =
@@ -87,7 +87,7 @@ module _ (s : Setting) (cursor : List ℕ) (j : ℕ) where
       omega (arith, r .accepted .cursor (c .on), r .accepted .v-most)
 
   module _ (o : OnCursor s cursor j) where
-    pub raster-displayed : (x : ℕ) → s .ds .0 ≤ x → x < s .de .0 → Displayed s x (s .vcs .0 + j)
+    pub raster-displayed : (x : ℕ) → s .ds .0 ≤ x → x < s .de .0 → InDisplay s x (s .vcs .0 + j)
     raster-displayed x l m =
         record {
           on = lt-ltb (s .vds .0) (s .vde .0) (omega arith);
@@ -113,7 +113,7 @@ module _ (s : Setting) (cursor : List ℕ) (j : ℕ) where
         }
 
 module _ (s : Setting) (video cursor pixels : List ℕ) (a : Accepted s) where
-  pub raster-out : (j : ℕ) → ((x : ℕ) → Displayed s x (s .vcs .0 + j) → ⊥) → 0 ≡ cursorRaster s video cursor pixels j
+  pub raster-out : (j : ℕ) → ((x : ℕ) → InDisplay s x (s .vcs .0 + j) → ⊥) → 0 ≡ cursorRaster s video cursor pixels j
   unfolding cursorRaster rasterBright
   raster-out j h =
       sym (total-none (cursorBright s video cursor pixels (s .vcs .0 + j)) 32

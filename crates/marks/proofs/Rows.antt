@@ -16,7 +16,7 @@ use Rattle.registers.specs.declared.setting.Setting.{Setting}
 use Rattle.registers.proofs.Accepted.{Accepted}
 use Rattle.frame.specs.Cell.{inDisplay, plainCode, covered}
 use Rattle.frame.specs.Frame.{frameCell}
-use Rattle.frame.proofs.CellCodes.{Displayed, Covered, displayed, in-display, is-covered, plain-five}
+use Rattle.frame.proofs.CellCodes.{InDisplay, Covered, displayed, in-display, is-covered, plain-five}
 use Rattle.marks.specs.Count.{total, bit}
 use Rattle.marks.specs.Marks.{markAt, marksOf}
 use Rattle.marks.specs.Bright.{pixelBright, coveredBright, cursorBright, rasterBright, cursorRaster}
@@ -46,19 +46,19 @@ rows-add s f h e p =
     (λ y l. sym (total-add (f y) (h y) n) ∙ total-as (λ x. f y x + h y x) (e y) n (λ x m. p y x))
 
 module _ (s : Setting) (a : Accepted s) (video cursor pixels : List ℕ) where
-  display-none : (y x : ℕ) → (Displayed s x y → ⊥) → displayBright s video pixels y x ≡ 0
+  display-none : (y x : ℕ) → (InDisplay s x y → ⊥) → displayBright s video pixels y x ≡ 0
   display-none y x h = rw (is-false (inDisplay s x y) (λ e. h (displayed s x y e)))
 
-  display-row-none : (y : ℕ) → ((x : ℕ) → Displayed s x y → ⊥) → total (displayBright s video pixels y) (s .n .0) ≡ 0
+  display-row-none : (y : ℕ) → ((x : ℕ) → InDisplay s x y → ⊥) → total (displayBright s video pixels y) (s .n .0) ≡ 0
   display-row-none y h = total-none (displayBright s video pixels y) (s .n .0) (λ x l. display-none y x (h x))
 
-  covered-none : (y x : ℕ) → (Displayed s x y → Covered s cursor x y → ⊥) → coveredBright s video cursor pixels y x ≡ 0
+  covered-none : (y x : ℕ) → (InDisplay s x y → Covered s cursor x y → ⊥) → coveredBright s video cursor pixels y x ≡ 0
   covered-none y x h =
       rw (is-false (eqb (plainCode s x y) 5 && covered s cursor x y)
       (λ e. let p = and-split (eqb (plainCode s x y) 5) (covered s cursor x y) e in
       h (displayed s x y (sym (plain-five s x y a) ∙ p .0)) (is-covered s x y cursor (p .1))))
 
-  covered-row-none : (y : ℕ) → ((x : ℕ) → Displayed s x y → Covered s cursor x y → ⊥) → total (coveredBright s video cursor pixels y) (s .n .0) ≡ 0
+  covered-row-none : (y : ℕ) → ((x : ℕ) → InDisplay s x y → Covered s cursor x y → ⊥) → total (coveredBright s video cursor pixels y) (s .n .0) ≡ 0
   covered-row-none y h = total-none (coveredBright s video cursor pixels y) (s .n .0) (λ x l. covered-none y x (h x))
 
   -- A displayed raster's bright pixels are the next DE-DS pixels of the words.
@@ -72,7 +72,7 @@ module _ (s : Setting) (a : Accepted s) (video cursor pixels : List ℕ) where
       (record { low = λ x m. display-none y x (λ d. omega arith); high = λ x m. display-none y x (λ d. omega (arith, a .ds-de)) })
       (λ x m. display-none y x (λ d. omega (arith, a .de-be, a .be-n)))
       ∙ total-as (λ p. displayBright s video pixels y (s .ds .0 + p)) (λ p. pixelBright pixels video (s .depth) (r * (s .de .0 - s .ds .0) + p)) (s .de .0 - s .ds .0)
-      (λ p m. let here : Displayed s (s .ds .0 + p) y = record { on = on; ds-x = omega arith; x-de = omega arith; vds-y = omega arith; y-vde = omega arith } in
+      (λ p m. let here : InDisplay s (s .ds .0 + p) y = record { on = on; ds-x = omega arith; x-de = omega arith; vds-y = omega arith; y-vde = omega arith } in
       rw (in-display s (s .ds .0 + p) y here, add-sub-cancel-left (s .vds .0) r, add-sub-cancel-left (s .ds .0) p))
 
   pub display-total : displayOn s ≡ true

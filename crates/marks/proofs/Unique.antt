@@ -1,8 +1,8 @@
 -- Any two answers that the contract permits are the same.
 use mathlib.Core.Path.{_≡_, sym, _∙_, ap}
 use Rattle.buffers.proofs.Coincide.{OneAnswer}
-use Rattle.registers.proofs.Tables.{never}
-use Rattle.registers.proofs.Told.{same-refusal}
+use Rattle.refusals.proofs.Tables.{never}
+use Rattle.refusals.proofs.Told.{same-refusal}
 use Rattle.marks.specs.Marks.{marksSays}
 use Rattle.marks.specs.declared.answer.Marks.{Marks}
 use Rattle.marks.specs.declared.answer.Marks.the-variants.{Count, Refused}

@@ -51,11 +51,11 @@ abbrev pub wordBright : List ℕ → ℕ → ℕ
 wordBright bytes w =
     getD bytes (w % 256) 0 + getD bytes (w / 0x100 % 256) 0 + getD bytes (w / 0x1_0000 % 256) 0 + getD bytes (w / 0x100_0000 % 256) 0
 
-abbrev pub wordAt : List ℕ → List ℕ → ℕ → ℕ
-wordAt bytes ws k = wordBright bytes (getD ws k 0)
+abbrev pub wordBrightAt : List ℕ → List ℕ → ℕ → ℕ
+wordBrightAt bytes ws k = wordBright bytes (getD ws k 0)
 
 abbrev pub wordFrom : List ℕ → List ℕ → ℕ → ℕ → ℕ
-wordFrom bytes ws from k = wordAt bytes ws (from + k)
+wordFrom bytes ws from k = wordBrightAt bytes ws (from + k)
 
 -- Position x of raster y, where code 5 would apply and the cursor covers it.
 abbrev pub coveredBright : Setting → List ℕ → List ℕ → List ℕ → ℕ → ℕ → ℕ

@@ -1,5 +1,5 @@
 // What the mark count answers.
-use registers::refusal::Refusal;
+use refusals::Refusal;
 
 pub enum Marks {
     // the number of marks

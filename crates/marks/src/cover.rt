@@ -9,12 +9,12 @@ ghost use lib.ListN.{length, getD};
 ghost use Rattle.registers.specs.Setting.{videoWords};
 ghost use Rattle.registers.proofs.Accepted.{Accepted};
 ghost use Rattle.frame.specs.Pixel.{position, logical};
-ghost use Rattle.frame.proofs.CellCodes.{Displayed};
+ghost use Rattle.frame.proofs.CellCodes.{InDisplay};
 ghost use Rattle.marks.specs.Bright.{Ready, OnCursor, cursorBright, cursorRaster, coveredAll};
 
 // Where a displayed position's pixel stands among all.
 fn place(s: Setting, x: Pixels, y: Rasters) -> usize
-    requires { ⌜ Accepted s × Displayed s (x .0) (y .0) ⌝ }
+    requires { ⌜ Accepted s × InDisplay s (x .0) (y .0) ⌝ }
     ensures { λ r. ⌜ r ≡ position s (x .0) (y .0) ⌝ }
 {
     (y.0 as usize - s.vds.0 as usize) * (s.de.0 as usize - s.ds.0 as usize)
@@ -37,7 +37,7 @@ fn entry(table: &[u8; 256], at: usize) -> u32
 
 // What the table has for the pixel of a displayed position.
 fn shown_at(s: Setting, video: &[u32], pixels: &[u8; 256], x: Pixels, y: Rasters) -> u32
-    requires { ⌜ Accepted s × Displayed s (x .0) (y .0) × (length (now video) ≡ videoWords s) ⌝ }
+    requires { ⌜ Accepted s × InDisplay s (x .0) (y .0) × (length (now video) ≡ videoWords s) ⌝ }
     ensures { λ r. ⌜ (r ≡ getD (now (pixels .entry)) (logical s (now (video .entry)) (x .0) (y .0)) 0) × (r ≤ 255) ⌝ }
 {
     let at = place(s, x, y);

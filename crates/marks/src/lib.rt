@@ -11,7 +11,7 @@ use crate::count::count;
 use frame::words_wrong;
 use registers::check::Checked;
 use registers::record::Registers;
-use registers::refusal::Refusal;
+use refusals::Refusal;
 ghost use mathlib.Core.Path.{_≡_};
 ghost use Rattle.marks.specs.Marks.{marksTold, marksSays};
 

@@ -3,7 +3,7 @@ ghost use mathlib.Core.Path.{_≡_};
 ghost use Prim.Native.Nat.{_*_, _-_, _≤_};
 ghost use lib.ListN.{length};
 ghost use Rattle.marks.specs.Count.{total};
-ghost use Rattle.marks.specs.Bright.{AtMost, wordBright, wordAt, wordFrom};
+ghost use Rattle.marks.specs.Bright.{AtMost, wordBright, wordBrightAt, wordFrom};
 
 // What the table has for the four bytes of a word.
 fn in_word(bytes: &[u32; 256], word: u32) -> u32
@@ -33,7 +33,7 @@ fn in_rest(bytes: &[u32; 256], words: &[u32], from: usize) -> u32
 // The sum over all words, in four sums: one would have each word wait for the word before.
 pub fn in_words(bytes: &[u32; 256], words: &[u32]) -> u32
     requires { ⌜ AtMost (now bytes) 255 × (length (now words) ≤ 0x8_0000) ⌝ }
-    ensures { λ r. ⌜ r ≡ total (wordAt (now (bytes .entry)) (now (words .entry))) (length (now (words .entry))) ⌝ }
+    ensures { λ r. ⌜ r ≡ total (wordBrightAt (now (bytes .entry)) (now (words .entry))) (length (now (words .entry))) ⌝ }
 {
     let fours = words.len() - words.len() % 4;
     let mut a: u32 = 0;

@@ -16,12 +16,12 @@ abbrev pub blue : ℕ → ℕ
 blue colour = 17 * (colour / 256 % 16)
 
 -- A cell is its code × 8192 and its colour, which is 0 for sync and blank cells.
-abbrev pub colourIn : ℕ → ℕ
-colourIn cell = cell % 8192
+abbrev pub cellColour : ℕ → ℕ
+cellColour cell = cell % 8192
 
 unfoldable pub gunsOf : List ℕ → List ℕ
 gunsOf [] = []
-gunsOf (x ∷ xs) = red (colourIn x) ∷ green (colourIn x) ∷ blue (colourIn x) ∷ gunsOf xs
+gunsOf (x ∷ xs) = red (cellColour x) ∷ green (cellColour x) ∷ blue (cellColour x) ∷ gunsOf xs
 
 -- None where there is no room for all.
 unfoldable pub gunsIn : ℕ → List ℕ → List ℕ

@@ -11,7 +11,7 @@ use borrow.Author.Tests.{lt-ltb, le-ltb, leb-true}
 use Rattle.buffers.specs.Pick.{pick}
 use Rattle.buffers.specs.Words.{wordsOf}
 use Rattle.buffers.proofs.Tests.{and-split}
-use Rattle.registers.specs.Table.{Told, given, refused, row, judged, unlessRefused}
+use Rattle.refusals.specs.Table.{why, Why, Told, given, refused, row, judged, unlessRefused}
 use Rattle.plates.specs.Plate.{mostBytes, plateLength, lengthRule, trailerRule, right, rOf, vOf, cOf, sOf, sectionsOf}
 use Rattle.plates.specs.Read.{trailerTold, readTold, copyTold, copied}
 use Rattle.plates.specs.Write.{writeTold}
@@ -22,7 +22,7 @@ pub read-right : (file : List ℕ) (t : Told Sections) → lengthRule (length fi
 unfolding readTold
 read-right file t h e = e ∙ rw h
 
-pub read-wrong : (file : List ℕ) → lengthRule (length file) ≡ false → refused 14 0 ≡ readTold file
+pub read-wrong : (file : List ℕ) → lengthRule (length file) ≡ false → refused (why 14 0) ≡ readTold file
 unfolding readTold
 read-wrong file h = rw h
 
@@ -31,13 +31,13 @@ pub record Right (file : List ℕ) (sections : Sections) : Type 0 where
   pub is-right : right file ≡ true
   pub are : sections ≡ sectionsOf file
 
-of-given : (t : Bool) (n : ℕ) {A : Type 0} (x y : A) → given x ≡ pick (not t) (refused n 0) (given y) → (t ≡ true) × (x ≡ y)
-of-given true n x y e = (refl, cc)
-of-given false n x y e = let z : _≡_ {A = ℕ} 0 1 = cc in absurd (omega arith)
+of-given : (t : Bool) (w : Why) {A : Type 0} (x y : A) → given x ≡ pick (not t) (refused w) (given y) → (t ≡ true) × (x ≡ y)
+of-given true w x y e = (refl, cc)
+of-given false w x y e = let z : _≡_ {A = ℕ} 0 1 = cc in absurd (omega arith)
 
 pub right-given : (file : List ℕ) (sections : Sections) → given sections ≡ readTold file → Right file sections
 unfolding readTold
-right-given file sections e = let b = of-given (right file) 14 sections (sectionsOf file) e in record { is-right = b .0; are = b .1 }
+right-given file sections e = let b = of-given (right file) (why 14 0) sections (sectionsOf file) e in record { is-right = b .0; are = b .1 }
 
 halves :
     (file : List ℕ) → right file ≡ true
@@ -59,7 +59,7 @@ module _ (file : List ℕ) (sections : Sections) (e : given sections ≡ readTol
 
   pub copy-short :
       (out after : List ℕ) → length out < sections .r
-      → (refused 13 0 ≡ copyTold file (length out)) × (out ≡ unlessRefused (copyTold file (length out)) out after)
+      → (refused (why 13 0) ≡ copyTold file (length out)) × (out ≡ unlessRefused (copyTold file (length out)) out after)
   unfolding copyTold
   copy-short out after h = (rw (← e, lt-ltb _ _ h), rw (← e, lt-ltb _ _ h))
 
@@ -72,10 +72,10 @@ module _ (file : List ℕ) (sections : Sections) (e : given sections ≡ readTol
       (rw (← e, le-ltb _ _ h), rw (← e, le-ltb _ _ h) (f ∙ are))
 
 pub copy-refused :
-    (file : List ℕ) (n d : ℕ) (out after : List ℕ) → refused n d ≡ readTold file
-    → (refused n d ≡ copyTold file (length out)) × (out ≡ unlessRefused (copyTold file (length out)) out after)
+    (file : List ℕ) (w : Why) (out after : List ℕ) → refused w ≡ readTold file
+    → (refused w ≡ copyTold file (length out)) × (out ≡ unlessRefused (copyTold file (length out)) out after)
 unfolding copyTold
-copy-refused file n d out after e = (rw (← e), rw (← e))
+copy-refused file w out after e = (rw (← e), rw (← e))
 
 -- The rows of writing.
 pub write-rows : (rs vs cs ss : List ℕ) (places : ℕ) → writeTold rs vs cs ss places

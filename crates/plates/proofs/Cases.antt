@@ -5,7 +5,7 @@ use Prim.Native.Nat.{ℕ}
 use lib.ListN.{length}
 use Rattle.buffers.specs.Words.{wordsOf, bytesOf}
 use Rattle.registers.specs.Small.{smallWords}
-use Rattle.registers.specs.Table.{given}
+use Rattle.refusals.specs.Table.{given}
 use Rattle.plates.specs.Plate.{trailerOf, plateOf}
 use Rattle.plates.specs.Read.{readTold, copied}
 use Rattle.plates.specs.Write.{writeTold}

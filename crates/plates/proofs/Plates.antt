@@ -9,7 +9,7 @@ use borrow.Author.Tests.{lt-ltb, le-ltb}
 use Rattle.buffers.specs.Words.{bytesOf}
 use Rattle.buffers.proofs.Sets.{sets-append}
 use Rattle.buffers.proofs.Words.{bytes-append, length-bytes}
-use Rattle.registers.specs.Table.{given, refused, unlessRefused}
+use Rattle.refusals.specs.Table.{why, given, refused, unlessRefused}
 use Rattle.plates.specs.Plate.{mostBytes, trailerOf, plateOf, plateLength}
 use Rattle.plates.specs.Write.{writeTold}
 
@@ -46,7 +46,7 @@ module _ (rs vs cs ss : List ℕ) where
 
   pub write-large :
       (out after : List ℕ) → 1048572 < length rs + length vs + length cs + length ss
-      → (refused 15 0 ≡ writeTold rs vs cs ss (length out)) × (out ≡ unlessRefused (writeTold rs vs cs ss (length out)) out after)
+      → (refused (why 15 0) ≡ writeTold rs vs cs ss (length out)) × (out ≡ unlessRefused (writeTold rs vs cs ss (length out)) out after)
   unfolding writeTold
   write-large out after h =
       let t = lt-ltb mostBytes (plateLength rs vs cs ss) (omega arith) in
@@ -54,7 +54,7 @@ module _ (rs vs cs ss : List ℕ) where
 
   pub write-short :
       (out after : List ℕ) → length rs + length vs + length cs + length ss ≤ 1048572 → length out < plateLength rs vs cs ss
-      → (refused 13 0 ≡ writeTold rs vs cs ss (length out)) × (out ≡ unlessRefused (writeTold rs vs cs ss (length out)) out after)
+      → (refused (why 13 0) ≡ writeTold rs vs cs ss (length out)) × (out ≡ unlessRefused (writeTold rs vs cs ss (length out)) out after)
   unfolding writeTold
   write-short out after h k =
       let t = le-ltb mostBytes (plateLength rs vs cs ss) (omega arith) in

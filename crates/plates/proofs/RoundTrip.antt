@@ -11,10 +11,11 @@ use contract.Lifetimes.{Lfts}
 use denote.Triple.Clauses.{AtExit}
 use denote.Ref.{now}
 use Rattle.buffers.proofs.Words.{Below}
-use Rattle.registers.specs.Table.{Told, given, told, unlessRefused}
+use Rattle.refusals.specs.Table.{Told, given, unlessRefused}
+use Rattle.refusals.specs.Refusals.{answerSays}
 use Rattle.plates.specs.Plate.{mostBytes, sectionsBy, plateOf, plateLength}
-use Rattle.plates.specs.Read.{toldRead, readTold, copyTold, copied}
-use Rattle.plates.specs.Write.{toldWritten, writeTold}
+use Rattle.plates.specs.Read.{readSays, readTold, copyTold, copied}
+use Rattle.plates.specs.Write.{writeSays, writeTold}
 use Rattle.plates.specs.declared.Sections.{Sections}
 use Rattle.plates.proofs.Calls.{right-given, right-ordered, right-short}
 use Rattle.plates.proofs.Plates.{write-done}
@@ -32,12 +33,12 @@ pub record ReadsBack (file rs vs cs ss : List ℕ) : Type 0 where
   pub reading :
       (κs : Lfts 1) (a : Dens κs read-kinds.ps) (x : resT read-kinds.r κs .Denot) (s : AtExit (endedOf 1 read-kinds.ps read-kinds.r) κs)
       → read-reads.Post κs a x s → now (a .0) ≡ file
-      → toldRead x
+      → readSays x
       ≡ given (sectionsBy (length rs + (length vs + (length cs + length ss))) (length vs + (length cs + length ss)) (length cs + length ss) (length ss))
   pub copying :
       (κs : Lfts 2) (a : Dens κs copy-kinds.ps) (x : resT copy-kinds.r κs .Denot) (s : AtExit (endedOf 2 copy-kinds.ps copy-kinds.r) κs)
       → copy-reads.Post κs a x s → now (a .0) ≡ file → length rs + (length vs + (length cs + length ss)) ≤ length (now (a .1 .0))
-      → (told x ≡ given tt) × (now (s .1 .0) ≡ sets (now (a .1 .0)) 0 (rs ++ vs ++ cs ++ ss))
+      → (answerSays x ≡ given tt) × (now (s .1 .0) ≡ sets (now (a .1 .0)) 0 (rs ++ vs ++ cs ++ ss))
 
 -- copying out of a file that is read
 copy-told : (file : List ℕ) (sections : Sections) (n : ℕ) → readTold file ≡ given sections → sections .r ≤ n → copyTold file n ≡ given tt
@@ -74,7 +75,7 @@ pub read-back-as-written :
     → Below (2 ^ 32) (now (a .0)) → Below (2 ^ 32) (now (a .1 .0)) → Below (2 ^ 32) (now (a .1 .1 .0)) → Below (2 ^ 32) (now (a .1 .1 .1 .0))
     → plateLength (now (a .0)) (now (a .1 .0)) (now (a .1 .1 .0)) (now (a .1 .1 .1 .0)) ≤ mostBytes
     → plateLength (now (a .0)) (now (a .1 .0)) (now (a .1 .1 .0)) (now (a .1 .1 .1 .0)) ≤ length (now (a .1 .1 .1 .1 .0))
-    → (toldWritten x ≡ given (plateLength (now (a .0)) (now (a .1 .0)) (now (a .1 .1 .0)) (now (a .1 .1 .1 .0))))
+    → (writeSays x ≡ given (plateLength (now (a .0)) (now (a .1 .0)) (now (a .1 .1 .0)) (now (a .1 .1 .1 .0))))
     × ReadsBack (take (plateLength (now (a .0)) (now (a .1 .0)) (now (a .1 .1 .0)) (now (a .1 .1 .1 .0))) (now (s .1 .1 .1 .1 .0)))
     (now (a .0)) (now (a .1 .0)) (now (a .1 .1 .0)) (now (a .1 .1 .1 .0))
 read-back-as-written κs a x s p br bv bc bs fits room =
@@ -102,7 +103,7 @@ pub written-again-the-same :
     (κw : Lfts 5) (a : Dens κw write-kinds.ps) (x : resT write-kinds.r κw .Denot) (s : AtExit (endedOf 5 write-kinds.ps write-kinds.r) κw)
     (file : List ℕ) (sections : Sections)
     → Below 256 file
-    → read-reads.Post κr b y t → now (b .0) ≡ file → toldRead y ≡ given sections
+    → read-reads.Post κr b y t → now (b .0) ≡ file → readSays y ≡ given sections
     → copy-reads.Post κc d z u → now (d .0) ≡ file → sections .r ≤ length (now (d .1 .0))
     → write-reads.Post κw a x s
     → now (a .0) ≡ slice (sections .registers / 4) (sections .video / 4) (now (u .1 .0))
@@ -110,7 +111,7 @@ pub written-again-the-same :
     → now (a .1 .1 .0) ≡ slice (sections .cursor / 4) (sections .sound / 4) (now (u .1 .0))
     → now (a .1 .1 .1 .0) ≡ slice (sections .sound / 4) (sections .trailer / 4) (now (u .1 .0))
     → length file ≤ length (now (a .1 .1 .1 .1 .0))
-    → (toldWritten x ≡ given (length file)) × (now (s .1 .1 .1 .1 .0) ≡ sets (now (a .1 .1 .1 .1 .0)) 0 file)
+    → (writeSays x ≡ given (length file)) × (now (s .1 .1 .1 .1 .0) ≡ sets (now (a .1 .1 .1 .1 .0)) 0 file)
 written-again-the-same κr b y t κc d z u κw a x s file sections small pr er accepted pc ed room pw e0 e1 e2 e3 fits =
     let rs = now (a .0) in
     let vs = now (a .1 .0) in

@@ -2,10 +2,10 @@
 use mathlib.Core.Path.{_≡_, sym, _∙_, ap}
 use denote.Ref.{now}
 use Rattle.buffers.proofs.Coincide.{OneAnswer, OneState}
-use Rattle.registers.proofs.Tables.{never}
-use Rattle.registers.proofs.Told.{same-refusal, same-answer}
-use Rattle.plates.specs.Read.{toldRead}
-use Rattle.plates.specs.Write.{toldWritten}
+use Rattle.refusals.proofs.Tables.{never}
+use Rattle.refusals.proofs.Told.{same-refusal, same-answer}
+use Rattle.plates.specs.Read.{readSays}
+use Rattle.plates.specs.Write.{writeSays}
 use Rattle.plates.specs.declared.Reading.{Reading}
 use Rattle.plates.specs.declared.Reading.the-variants as reading
 use Rattle.plates.specs.declared.Writing.{Writing}
@@ -17,13 +17,13 @@ use Rattle.plates.proofs.copy_out.Reads as copy-reads
 use Rattle.plates.proofs.write.Kinds as write-kinds
 use Rattle.plates.proofs.write.Reads as write-reads
 
-pub same-reading : (x y : Reading) → toldRead x ≡ toldRead y → x ≡ y
+pub same-reading : (x y : Reading) → readSays x ≡ readSays y → x ≡ y
 same-reading (reading.Plate s) (reading.Plate t) e = ap reading.Plate (let q : s ≡ t = cc in q)
 same-reading (reading.Plate s) (reading.Refused q) e = never e
 same-reading (reading.Refused r) (reading.Plate t) e = never (sym e)
 same-reading (reading.Refused r) (reading.Refused q) e = ap reading.Refused (same-refusal r q e)
 
-pub same-writing : (x y : Writing) → toldWritten x ≡ toldWritten y → x ≡ y
+pub same-writing : (x y : Writing) → writeSays x ≡ writeSays y → x ≡ y
 same-writing (writing.Bytes m) (writing.Bytes n) e = ap writing.Bytes (let q : m ≡ n = cc in q)
 same-writing (writing.Bytes m) (writing.Refused q) e = never e
 same-writing (writing.Refused r) (writing.Bytes n) e = never (sym e)

@@ -6,16 +6,17 @@ use lib.ListN.{length, take}
 use lib.Dec.{ltb}
 use lib.Seq.{sets}
 use Rattle.buffers.specs.Words.{wordsOf}
-use Rattle.registers.specs.Table.{Told, row, judged, given, refusal, andThen, unlessRefused}
+use Rattle.refusals.specs.Table.{Told, row, judged, given, andThen, unlessRefused}
+use Rattle.refusals.specs.Refusals.{refusal}
 use Rattle.plates.specs.Plate.{rOf, vOf, cOf, sOf, trailerRule, right, sectionsOf}
 use Rattle.plates.specs.declared.Sections.{Sections}
 use Rattle.plates.specs.declared.Reading.{Reading}
 use Rattle.plates.specs.declared.Reading.the-variants.{Plate, Refused}
 
 -- An answer as the paper has it.
-abbrev pub toldRead : Reading → Told Sections
-toldRead (Plate sections) = given sections
-toldRead (Refused why) = refusal why
+abbrev pub readSays : Reading → Told Sections
+readSays (Plate sections) = given sections
+readSays (Refused why) = refusal why
 
 -- What a trailer says of its file, by its own rule alone.
 abbrev pub trailerTold : List ℕ → Told Sections

@@ -4,15 +4,16 @@ use mathlib.Core.List.{List, [], _∷_}
 use lib.Dec.{ltb}
 use lib.ListN.{length}
 use lib.Seq.{sets}
-use Rattle.registers.specs.Table.{Told, row, judged, given, refusal, unlessRefused}
+use Rattle.refusals.specs.Table.{Told, row, judged, given, unlessRefused}
+use Rattle.refusals.specs.Refusals.{refusal}
 use Rattle.plates.specs.Plate.{mostBytes, plateOf, plateLength}
 use Rattle.plates.specs.declared.Writing.{Writing}
 use Rattle.plates.specs.declared.Writing.the-variants.{Bytes, Refused}
 
 -- An answer as the paper has it.
-abbrev pub toldWritten : Writing → Told ℕ
-toldWritten (Bytes n) = given n
-toldWritten (Refused why) = refusal why
+abbrev pub writeSays : Writing → Told ℕ
+writeSays (Bytes n) = given n
+writeSays (Refused why) = refusal why
 
 -- Writing into a list of some bytes.
 unfoldable pub writeTold : List ℕ → List ℕ → List ℕ → List ℕ → ℕ → Told ℕ

@@ -1,8 +1,8 @@
 // Plate files: read, copied out, written. The contents of the sections are not judged here.
 mod words;
 
-use registers::refusal::Answer;
-use registers::refusal::Refusal;
+use refusals::Answer;
+use refusals::Refusal;
 use words::copy_words;
 use words::put_words;
 use words::word_at;
@@ -10,10 +10,10 @@ ghost use mathlib.Core.Path.{_≡_};
 ghost use Prim.Native.Nat.{_≤_};
 ghost use lib.ListN.{length};
 ghost use lib.Seq.{sets};
-ghost use Rattle.registers.specs.Table.{told};
+ghost use Rattle.refusals.specs.Refusals.{answerSays};
 ghost use Rattle.plates.specs.Plate.{mostBytes, plateOf, plateLength, sectionsBy};
-ghost use Rattle.plates.specs.Read.{toldRead, trailerTold, readTold, copyTold, copyLeaves};
-ghost use Rattle.plates.specs.Write.{toldWritten, writeTold, writeLeaves};
+ghost use Rattle.plates.specs.Read.{readSays, trailerTold, readTold, copyTold, copyLeaves};
+ghost use Rattle.plates.specs.Write.{writeSays, writeTold, writeLeaves};
 
 // The most bytes that a plate may have.
 pub const MOST_BYTES: usize = 4_194_304;
@@ -68,7 +68,7 @@ fn starts(r: u32, v: u32, c: u32, s: u32) -> Sections
 // The sections of a file that is long enough for a trailer.
 fn read_trailer(file: &[u8]) -> Reading
     requires { ⌜ 16 ≤ length (now file) ⌝ }
-    ensures { λ r. ⌜ toldRead r ≡ trailerTold (now (file .entry)) ⌝ }
+    ensures { λ r. ⌜ readSays r ≡ trailerTold (now (file .entry)) ⌝ }
 {
     let n = file.len();
     let r = word_at(file, n - 16);
@@ -83,7 +83,7 @@ fn read_trailer(file: &[u8]) -> Reading
 
 // A file judged: the byte at which each section starts, and the trailer; or 14.
 pub fn read(file: &[u8]) -> Reading
-    ensures { λ r. ⌜ toldRead r ≡ readTold (now (file .entry)) ⌝ }
+    ensures { λ r. ⌜ readSays r ≡ readTold (now (file .entry)) ⌝ }
 {
     let n = file.len();
     if (16 <= n) & (n <= MOST_BYTES) {
@@ -95,7 +95,7 @@ pub fn read(file: &[u8]) -> Reading
 // All words before the trailer, in order, copied into lent memory; or 14, then 13.
 pub fn copy_out(file: &[u8], out: &mut [u32]) -> Answer
     ensures { λ r. ⌜
-        (told r ≡ copyTold (now (file .entry)) (length (now (out .entry))))
+        (answerSays r ≡ copyTold (now (file .entry)) (length (now (out .entry))))
         × (now (out .exit) ≡ copyLeaves (now (file .entry)) (now (out .entry)))
         ⌝ }
 {
@@ -144,7 +144,7 @@ pub fn write(
     out: &mut [u8],
 ) -> Writing
     ensures { λ r. ⌜
-        (toldWritten r
+        (writeSays r
         ≡ writeTold (now (registers .entry)) (now (video .entry)) (now (cursor .entry)) (now (sound .entry)) (length (now (out .entry))))
         × (now (out .exit)
         ≡ writeLeaves (now (registers .entry)) (now (video .entry)) (now (cursor .entry)) (now (sound .entry)) (now (out .entry)))

@@ -7,7 +7,7 @@ use mathlib.Core.Logic.{_⊎_, inl, inr}
 use native.Mathlib.Omega.{arith}
 use lib.ListN.{getD}
 use borrow.Author.Tests.{ltb-true}
-use Rattle.registers.specs.Table.{given}
+use Rattle.refusals.specs.Table.{given}
 use Rattle.registers.specs.Geometry.{depthChoice}
 use Rattle.registers.specs.Setting.{settingOf, displayOn, borderOn, videoWords, cursorWords}
 use Rattle.registers.specs.Check.{checkTold}

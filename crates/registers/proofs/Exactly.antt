@@ -8,7 +8,7 @@ use lib.Dec.{ltb, leb, eqb}
 use lib.ListN.{getD}
 use borrow.Author.Tests.{ltb-true, ltb-false, leb-true, eqb-true, not-true, not-false, lt-ltb, le-ltb, le-leb, eq-eqb}
 use Rattle.buffers.proofs.Tests.{and-split, and-join, or-split, or-left, or-right}
-use Rattle.registers.specs.Table.{given, refused, First}
+use Rattle.refusals.specs.Table.{Why, given, refused, First}
 use Rattle.registers.specs.Geometry.{subPosition}
 use Rattle.registers.specs.Setting.{settingOf, displayOn, borderOn}
 use Rattle.registers.specs.Needed.{needed, missing}
@@ -19,7 +19,7 @@ use Rattle.registers.specs.declared.record.Registers.{Registers}
 use Rattle.registers.specs.declared.setting.Setting.{Setting}
 use Rattle.registers.specs.declared.lowest.Fault.the-variants.{Unwritten}
 use Rattle.registers.proofs.First.{lowest-passes, lowest-fails}
-use Rattle.registers.proofs.Tables.{passes-given, given-passes, refused-first, first-refused}
+use Rattle.refusals.proofs.Tables.{passes-given, given-passes, refused-first, first-refused}
 
 not-of : {t : Bool} → t ≡ true → not t ≡ false
 not-of e = rw e
@@ -191,6 +191,6 @@ module _ (g : Registers) where
   )
 
   -- and refused exactly with the first rule broken
-  pub first-broken : (n d : ℕ) → (checkTold g ≡ refused n d) ↔ First (settingTable g) n d
+  pub first-broken : (w : Why) → (checkTold g ≡ refused w) ↔ First (settingTable g) w
   unfolding checkTold
-  first-broken n d = (refused-first (settingOf g) (settingTable g) n d, first-refused (settingOf g) (settingTable g) n d)
+  first-broken w = (refused-first (settingOf g) (settingTable g) w, first-refused (settingOf g) (settingTable g) w)

@@ -7,7 +7,7 @@ use borrow.Author.Tests.{ltb-false, eqb-false, le-leb}
 use lib.Dec.{eqb}
 use lib.ListN.{getD}
 use Rattle.buffers.proofs.Tests.{or-neither}
-use Rattle.registers.specs.Table.{given}
+use Rattle.refusals.specs.Table.{given}
 use Rattle.registers.specs.Needed.{among}
 use Rattle.registers.specs.Lowest.{faultAt}
 use Rattle.registers.specs.Stereo.{stereoSlot, stereoOf, soundWrong}
@@ -15,7 +15,7 @@ use Rattle.registers.specs.Sound.{soundTable, soundFault, soundTold}
 use Rattle.registers.specs.declared.record.Registers.{Registers}
 use Rattle.registers.specs.declared.lowest.Fault.the-variants.{SoundWrong}
 use Rattle.registers.proofs.First.{lowest-fails}
-use Rattle.registers.proofs.Tables.{given-passes}
+use Rattle.refusals.proofs.Tables.{given-passes}
 
 -- A stereo value that is not at fault is not 0
 nonzero : (g : Registers) (slot : ℕ) → 24 ≤ slot → slot ≤ 31 → soundWrong g slot ≡ false → eqb (getD (g .values) slot 0 % 8) 0 ≡ false

@@ -3,7 +3,6 @@ pub mod Lists
 pub mod First
 pub mod Groups
 pub mod Missing
-pub mod Tables
 pub mod Exactly
 pub mod Accepted
 pub mod Told

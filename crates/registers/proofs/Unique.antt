@@ -2,11 +2,8 @@
 use mathlib.Core.Path.{_≡_, sym, _∙_}
 use Rattle.buffers.proofs.Coincide.{OneAnswer}
 use Rattle.registers.specs.declared.record.Loaded.{Loaded}
-use Rattle.registers.proofs.Told.{same-answer, same-checked}
-use Rattle.registers.proofs.refusal.Refusal.number.Kinds as number-kinds
-use Rattle.registers.proofs.refusal.Refusal.number.Reads as number-reads
-use Rattle.registers.proofs.refusal.Refusal.detail.Kinds as detail-kinds
-use Rattle.registers.proofs.refusal.Refusal.detail.Reads as detail-reads
+use Rattle.refusals.proofs.Told.{same-answer}
+use Rattle.registers.proofs.Told.{same-checked}
 use Rattle.registers.proofs.units.Pairs.pixels.Kinds as pixels-kinds
 use Rattle.registers.proofs.units.Pairs.pixels.Reads as pixels-reads
 use Rattle.registers.proofs.units.Pixels.width_from.Kinds as width-from-kinds
@@ -64,12 +61,6 @@ use Rattle.registers.proofs.record.Registers.check_sound.Reads as check
 
 same-loaded : (x y : Loaded) → x .answer ≡ y .answer → x .registers ≡ y .registers → x ≡ y
 same-loaded x y a r = λ i. record { registers = r i; answer = a i }
-
-pub one-number : OneAnswer 0 number-kinds.ps number-kinds.r number-reads.Post
-one-number κs a x y s t p q = p ∙ sym q
-
-pub one-detail : OneAnswer 0 detail-kinds.ps detail-kinds.r detail-reads.Post
-one-detail κs a x y s t p q = p ∙ sym q
 
 pub one-pixels : OneAnswer 0 pixels-kinds.ps pixels-kinds.r pixels-reads.Post
 one-pixels κs a x y s t p q = p ∙ sym q

@@ -3,7 +3,8 @@ use Prim.Native.Nat.{ℕ, _*_, _-_, _/_, _%_}
 use mathlib.Core.Bool.{Bool, _&&_, _||_, not}
 use mathlib.Core.List.{List, [], _∷_}
 use lib.Dec.{ltb, leb, eqb}
-use Rattle.registers.specs.Table.{Told, given, Row, row, judged, refusal}
+use Rattle.refusals.specs.Table.{Told, given, Row, row, judged}
+use Rattle.refusals.specs.Refusals.{refusal}
 use Rattle.registers.specs.Geometry.{control, subPosition}
 use Rattle.registers.specs.Setting.{settingOf, displayOn, borderOn}
 use Rattle.registers.specs.Lowest.{lowest, faultAt}

@@ -1,4 +1,3 @@
-pub mod Table
 pub mod Record
 pub mod Load
 pub mod Geometry

@@ -4,7 +4,7 @@ use mathlib.Core.List.{List, [], _∷_}
 use lib.ListN.{length}
 use lib.Dec.{ltb}
 use Rattle.buffers.specs.Pick.{pick}
-use Rattle.registers.specs.Table.{Told, Row, row, judged}
+use Rattle.refusals.specs.Table.{Told, Row, row, judged}
 use Rattle.registers.specs.Record.{slotOf, reserved, storedOf}
 use Rattle.registers.specs.declared.record.Registers.{Registers}
 

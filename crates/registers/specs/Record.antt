@@ -5,7 +5,7 @@ use mathlib.Core.List.{List, [], _∷_}
 use lib.ListN.{getD, set, replicate}
 use lib.Dec.{eqb}
 use Rattle.buffers.specs.Pick.{pick}
-use Rattle.registers.specs.Table.{Told, row, judged}
+use Rattle.refusals.specs.Table.{Told, row, judged}
 use Rattle.registers.specs.declared.record.Registers.{Registers}
 
 -- The address is bits 31 to 26, a byte with two zero bits below; its slot is the address without those.

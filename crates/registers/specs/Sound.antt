@@ -2,7 +2,7 @@
 use Prim.Native.Nat.{ℕ, _*_}
 use mathlib.Core.List.{List, [], _∷_}
 use lib.Dec.{ltb}
-use Rattle.registers.specs.Table.{Told, Row, row, judged}
+use Rattle.refusals.specs.Table.{Told, Row, row, judged}
 use Rattle.registers.specs.Lowest.{lowest, faultAt}
 use Rattle.registers.specs.declared.record.Registers.{Registers}
 use Rattle.registers.specs.declared.lowest.Fault.the-variants.{SoundUnwritten, SoundWrong}

@@ -3,12 +3,13 @@ use crate::lowest::Fault;
 use crate::lowest::lowest;
 use crate::numbers::odd_bits;
 use crate::record::Registers;
-use crate::refusal::Answer;
-use crate::refusal::Refusal;
+use refusals::Answer;
+use refusals::Refusal;
 use crate::setting::Setting;
 ghost use mathlib.Core.Path.{_≡_};
 ghost use Rattle.buffers.specs.Pick.{pick};
-ghost use Rattle.registers.specs.Table.{refusal, told, judged};
+ghost use Rattle.refusals.specs.Table.{judged};
+ghost use Rattle.refusals.specs.Refusals.{refusal, answerSays};
 ghost use Rattle.registers.specs.Check.{
   checkSays,
   horizontalRule,
@@ -31,7 +32,7 @@ pub enum Checked {
 
 // A refusal where the test holds, else what the rows after it answer.
 fn refused_if(wrong: bool, why: Refusal, rest: Answer) -> Answer
-    ensures { λ r. ⌜ told r ≡ pick wrong (refusal why) (told rest) ⌝ }
+    ensures { λ r. ⌜ answerSays r ≡ pick wrong (refusal why) (answerSays rest) ⌝ }
 {
     if wrong {
         return Answer::Refused(why);
@@ -107,7 +108,7 @@ impl Registers {
     // The first refusal of 3 to 9, for the record and its setting. The rows are joined from the last to the first.
     fn judge(self, s: Setting) -> Answer
         requires { ⌜ s ≡ settingOf self ⌝ }
-        ensures { λ r. ⌜ told r ≡ judged (settingTable self) tt ⌝ }
+        ensures { λ r. ⌜ answerSays r ≡ judged (settingTable self) tt ⌝ }
     {
         let low = lowest(self, Fault::Unwritten);
         let address = 4 * low as u32;

@@ -8,7 +8,6 @@ mod lowest;
 mod needed;
 mod numbers;
 pub mod record;
-pub mod refusal;
 pub mod setting;
 pub mod sound;
 mod stereo;

@@ -2,10 +2,11 @@
 use crate::record::Loaded;
 use crate::record::Registers;
 use crate::record::is_reserved;
-use crate::refusal::Answer;
-use crate::refusal::Refusal;
+use refusals::Answer;
+use refusals::Refusal;
 ghost use mathlib.Core.Path.{_≡_};
-ghost use Rattle.registers.specs.Table.{told, unlessRefused};
+ghost use Rattle.refusals.specs.Table.{unlessRefused};
+ghost use Rattle.refusals.specs.Refusals.{answerSays};
 ghost use Rattle.registers.specs.Load.{leading, applied, loadTold};
 
 // How many words stand before the first whose address is reserved.
@@ -39,7 +40,7 @@ impl Registers {
     // The words applied to this record, or a refusal beside the record as it came.
     pub fn load(self, words: &[u32]) -> Loaded
         ensures { λ r. ⌜
-            (told (r .answer) ≡ loadTold (now (words .entry)))
+            (answerSays (r .answer) ≡ loadTold (now (words .entry)))
             × (r .registers ≡ unlessRefused (loadTold (now (words .entry))) self (applied self (now (words .entry))))
             ⌝ }
     {

@@ -1,8 +1,9 @@
 // The register record: each register's data and whether it was written, at the slot that is its address / 4.
-use crate::refusal::Answer;
-use crate::refusal::Refusal;
+use refusals::Answer;
+use refusals::Refusal;
 ghost use mathlib.Core.Path.{_≡_};
-ghost use Rattle.registers.specs.Table.{told, unlessRefused};
+ghost use Rattle.refusals.specs.Table.{unlessRefused};
+ghost use Rattle.refusals.specs.Refusals.{answerSays};
 ghost use Rattle.registers.specs.Record.{fresh, storedOf, wordTold, reserved};
 
 pub struct Registers {
@@ -53,7 +54,7 @@ impl Registers {
 
     // One word loaded alone: refusal 2 with detail 0 for a reserved address.
     pub fn load_word(self, word: u32) -> Loaded
-        ensures { λ r. ⌜ (told (r .answer) ≡ wordTold word) × (r .registers ≡ unlessRefused (wordTold word) self (storedOf self word)) ⌝ }
+        ensures { λ r. ⌜ (answerSays (r .answer) ≡ wordTold word) × (r .registers ≡ unlessRefused (wordTold word) self (storedOf self word)) ⌝ }
     {
         if is_reserved(word / 0x400_0000) {
             return Loaded {

@@ -2,10 +2,10 @@
 use crate::lowest::Fault;
 use crate::lowest::lowest;
 use crate::record::Registers;
-use crate::refusal::Answer;
-use crate::refusal::Refusal;
+use refusals::Answer;
+use refusals::Refusal;
 ghost use mathlib.Core.Path.{_≡_};
-ghost use Rattle.registers.specs.Table.{told};
+ghost use Rattle.refusals.specs.Refusals.{answerSays};
 ghost use Rattle.registers.specs.Stereo.{stereoOf, frequencyOf};
 ghost use Rattle.registers.specs.Sound.{soundTold};
 
@@ -26,7 +26,7 @@ impl Registers {
 
     // Whether sound may be played: 3 or 10 with the lowest address, else done.
     pub fn check_sound(self) -> Answer
-        ensures { λ r. ⌜ told r ≡ soundTold self ⌝ }
+        ensures { λ r. ⌜ answerSays r ≡ soundTold self ⌝ }
     {
         let unwritten = lowest(self, Fault::SoundUnwritten);
         if unwritten < Self::SLOTS {

@@ -10,12 +10,12 @@ use borrow.Author.Tests.{le-leb, ne-eqb}
 use lib.ListN.{length, length-append}
 use Rattle.buffers.specs.Values.{valuesFrom}
 use Rattle.buffers.proofs.Split.{lt-or-le}
-use Rattle.registers.specs.Table.{Told, given, refused}
+use Rattle.refusals.specs.Table.{Why, Told, given, refused}
 use Rattle.registers.specs.declared.setting.Setting.{Setting}
 use Rattle.frame.specs.Frame.{rasterCell}
 use Rattle.runs.specs.Runs.{lineOf, runsFrom}
 use Rattle.runs.specs.Sheet.{sheetTold, registersOf, videoList, cursorList}
-use Rattle.runs.specs.Text.{pairLine, headOf, headLine, refusedLine, labelled, rasterLine, pictureLine, lineFor, lineAt, linesFor, firstLines, textOf}
+use Rattle.runs.specs.Text.{pairLine, pictureHead, headLine, refusedLine, labelled, rasterLine, pictureLine, lineFor, lineAt, linesFor, firstLines, textOf}
 use Rattle.runs.proofs.Texts.{picture-accepted, told-picture, no-more}
 
 -- A list with a last byte has a byte.
@@ -31,9 +31,9 @@ some-head : (n v w m : ℕ) → 1 ≤ length (headLine n v w m)
 unfolding headLine labelled
 some-head n v w m = rw length-append (omega arith)
 
-some-refused : (n d : ℕ) → 1 ≤ length (refusedLine n d)
+some-refused : (w : Why) → 1 ≤ length (refusedLine w)
 unfolding pairLine labelled
-some-refused n d = rw length-append (omega arith)
+some-refused w = rw length-append (omega arith)
 
 module _ (file : List ℕ) where
   -- A plate that is not refused has an accepted setting.
@@ -45,10 +45,10 @@ module _ (file : List ℕ) where
     where
       go : (t : Told Setting) → sheetTold file ≡ t → linesFor t ≤ 1025
       go (given s) e = omega (arith, few-rasters s e)
-      go (refused n d) e = omega arith
+      go (refused w) e = omega arith
 
   some-picture : (s : Setting) (k : ℕ) → k ≤ s .v .0 → 1 ≤ length (pictureLine (registersOf file) s (videoList file) (cursorList file) k)
-  unfolding pictureLine rasterLine headOf
+  unfolding pictureLine rasterLine pictureHead
   some-picture s zero h = some-head _ _ _ _
   some-picture s (suc k) h =
       rw (ne-eqb (suc k) 0 (λ q. omega arith), le-leb (suc k) (s .v .0) h)
@@ -56,8 +56,8 @@ module _ (file : List ℕ) where
 
   some-lines : (t : Told Setting) (k : ℕ) → k < linesFor t → 1 ≤ length (lineFor file k t)
   some-lines (given s) k h = some-picture s k (omega arith)
-  some-lines (refused n d) zero h = some-refused n d
-  some-lines (refused n d) (suc k) h = absurd (omega arith)
+  some-lines (refused w) zero h = some-refused w
+  some-lines (refused w) (suc k) h = absurd (omega arith)
 
   -- A line that is none comes after the last.
   pub last-line : (k : ℕ) → k ≤ linesFor (sheetTold file) → length (lineAt file k) ≡ 0 → k ≡ linesFor (sheetTold file)

@@ -7,9 +7,9 @@ use native.Mathlib.Nat.{sub-zero}
 use lib.ListN.{length, take}
 use borrow.Author.Tests.{lt-leb, le-leb, eq-eqb, ne-eqb}
 use Rattle.buffers.specs.Put.{Put}
-use Rattle.registers.specs.Table.{Told, given, refused}
+use Rattle.refusals.specs.Table.{Told, given, refused}
 use Rattle.registers.specs.declared.record.Registers.{Registers}
-use Rattle.registers.specs.declared.refusal.Refusal.{Refusal}
+use Rattle.refusals.specs.declared.Refusal.{Refusal}
 use Rattle.registers.specs.declared.setting.Setting.{Setting}
 use Rattle.registers.specs.declared.check.Checked.the-variants as checked
 use Rattle.pictures.specs.Colours.{gunsOf, gunsIn}
@@ -55,4 +55,4 @@ no-more-strips file k h = go (sheetTold file) h
   where
     go : (t : Told Setting) → stripsFor t ≤ k → stripFor file k t ≡ []
     go (given s) h = rw (ne-eqb k 0 (λ e. omega arith), lt-leb k (s .v .0) (omega arith))
-    go (refused n d) h = refl
+    go (refused w) h = refl

@@ -11,20 +11,21 @@ use borrow.Author.Tests.{lt-ltb, le-ltb, ltb-false}
 use Rattle.buffers.specs.Pick.{pick}
 use Rattle.buffers.specs.Words.{wordsOf}
 use Rattle.buffers.proofs.Words.{length-words}
-use Rattle.registers.specs.Table.{Told, given, refused, refusal, told, andThen, unlessRefused}
+use Rattle.refusals.specs.Table.{why, Told, given, refused, andThen, unlessRefused}
+use Rattle.refusals.specs.Refusals.{refusal, answerSays}
 use Rattle.registers.specs.Record.{fresh}
 use Rattle.registers.specs.Load.{applied, loadTold}
 use Rattle.registers.specs.Check.{checkTold, checkSays}
 use Rattle.registers.specs.declared.record.Registers.{Registers}
-use Rattle.registers.specs.declared.refusal.Refusal.{Refusal}
-use Rattle.registers.specs.declared.refusal.Answer.the-variants as answer
+use Rattle.refusals.specs.declared.Refusal.{Refusal}
+use Rattle.refusals.specs.declared.Answer.the-variants as answer
 use Rattle.registers.specs.declared.setting.Setting.{Setting}
 use Rattle.registers.specs.declared.check.Checked.{Checked}
 use Rattle.registers.specs.declared.check.Checked.the-variants as checked
-use Rattle.registers.proofs.Tables.{never}
+use Rattle.refusals.proofs.Tables.{never}
 use Rattle.frame.specs.Frame.{wordsWrong}
 use Rattle.plates.specs.Plate.{rOf, sectionsOf}
-use Rattle.plates.specs.Read.{toldRead, readTold, copyTold, copied}
+use Rattle.plates.specs.Read.{readSays, readTold, copyTold, copied}
 use Rattle.plates.specs.declared.Sections.{Sections}
 use Rattle.plates.specs.declared.Reading.{Reading}
 use Rattle.plates.specs.declared.Reading.the-variants as reading
@@ -39,7 +40,7 @@ module _ (g : Registers) (video cursor : List ℕ) (x : Checked) (e : checkSays 
   unfolding pictureTold
   picture-refused why q = rw (← e, q)
 
-  pub picture-wrong : (s : Setting) → x ≡ checked.Accepted s → wordsWrong s video cursor ≡ true → refused 11 0 ≡ pictureTold g video cursor
+  pub picture-wrong : (s : Setting) → x ≡ checked.Accepted s → wordsWrong s video cursor ≡ true → refused (why 11 0) ≡ pictureTold g video cursor
   unfolding pictureTold
   picture-wrong s q w = rw (← e, q, w)
 
@@ -49,7 +50,7 @@ module _ (g : Registers) (video cursor : List ℕ) (x : Checked) (e : checkSays 
 
 -- a file taken apart
 module _ (file words : List ℕ) (r : Taken) where
-  pub taken-large : mostInput < length file → told (r .answer) ≡ refused 15 0 → TakenFrom file words r
+  pub taken-large : mostInput < length file → answerSays (r .answer) ≡ refused (why 15 0) → TakenFrom file words r
   unfolding takenTold
   taken-large h c =
       record {
@@ -57,8 +58,8 @@ module _ (file words : List ℕ) (r : Taken) where
         held = λ t. never (sym (rw (lt-ltb mostInput (length file) h) at t));
       }
 
-  pub taken-wrong : length file ≤ mostInput → (x : Reading) (why : Refusal) → toldRead x ≡ readTold file → x ≡ reading.Refused why
-      → told (r .answer) ≡ refusal why → TakenFrom file words r
+  pub taken-wrong : length file ≤ mostInput → (x : Reading) (why : Refusal) → readSays x ≡ readTold file → x ≡ reading.Refused why
+      → answerSays (r .answer) ≡ refusal why → TakenFrom file words r
   unfolding takenTold
   taken-wrong h x why e q c =
       record {
@@ -74,9 +75,9 @@ pub record Placed (file : List ℕ) (p : Sections) : Type 0 where
   pub s-c : p .s ≤ p .c
   pub whole : 4 * p .r + 16 ≡ length file
 
-pub placed : (file : List ℕ) (x : Reading) (p : Sections) → toldRead x ≡ readTold file → x ≡ reading.Plate p → Placed file p
+pub placed : (file : List ℕ) (x : Reading) (p : Sections) → readSays x ≡ readTold file → x ≡ reading.Plate p → Placed file p
 placed file x p e q =
-    let g = right-given file p (sym (ap toldRead q) ∙ e) in
+    let g = right-given file p (sym (ap readSays q) ∙ e) in
     let o = right-ordered file (g .is-right) in
     record {
       are = g .are;
@@ -92,7 +93,7 @@ part-sets o ws from to a b c =
     rw (sets-eq ws o 0 (omega arith), drop-append-le from ws _ (omega arith))
     (take-append-le (to - from) (drop from ws) _ (rw length-drop (omega arith)))
 
-module _ (file o new : List ℕ) (x : Reading) (p : Sections) (short : length file ≤ mostInput) (e : toldRead x ≡ readTold file)
+module _ (file o new : List ℕ) (x : Reading) (p : Sections) (short : length file ≤ mostInput) (e : readSays x ≡ readTold file)
     (q : x ≡ reading.Plate p) (room : 16384 ≤ length o) (after : new ≡ unlessRefused (copyTold file (length o)) o (sets o 0 (copied file))) where
   length-copied : length (copied file) ≡ p .r
   length-copied =
@@ -103,7 +104,7 @@ module _ (file o new : List ℕ) (x : Reading) (p : Sections) (short : length fi
   pub copied-out : new ≡ sets o 0 (copied file)
   copied-out =
       let k = placed file x p e q in
-      let done = copy-done file p (sym (ap toldRead q) ∙ e) o (sets o 0 (wordsOf (take (4 * p .r) file))) (omega (arith, k .whole)) refl in
+      let done = copy-done file p (sym (ap readSays q) ∙ e) o (sets o 0 (wordsOf (take (4 * p .r) file))) (omega (arith, k .whole)) refl in
       after ∙ (sym (done .1) ∙ rw (k .are))
 
   part-copied : (from to : ℕ) → from ≤ to → to ≤ p .r → part new from to ≡ part (copied file) from to
@@ -131,7 +132,7 @@ module _ (file o new : List ℕ) (x : Reading) (p : Sections) (short : length fi
   unfolding takenTold
   taken-is = rw (le-ltb mostInput (length file) short, ← e, q, register-part)
 
-  pub taken-words : (r : Taken) (n : Registers) → n ≡ fresh → told (r .answer) ≡ loadTold (part new 0 (p .r - p .v))
+  pub taken-words : (r : Taken) (n : Registers) → n ≡ fresh → answerSays (r .answer) ≡ loadTold (part new 0 (p .r - p .v))
       → r .parts .registers ≡ unlessRefused (loadTold (part new 0 (p .r - p .v))) n (applied n (part new 0 (p .r - p .v)))
       → r .parts .video ≡ p .r - p .v → r .parts .cursor ≡ p .r - p .c → r .parts .sound ≡ p .r - p .s → r .parts .end ≡ p .r
       → TakenFrom file new r
@@ -157,7 +158,7 @@ module _ (file o new : List ℕ) (x : Reading) (p : Sections) (short : length fi
 
 -- a plate taken apart, and judged
 pub taken-held : (file words : List ℕ) (t : Taken) → TakenFrom file words t → t .answer ≡ answer.Done → Held file words (t .parts)
-taken-held file words t k q = k .held (sym (k .says) ∙ ap told q)
+taken-held file words t k q = k .held (sym (k .says) ∙ ap answerSays q)
 
 module _ (file words : List ℕ) (t : Taken) (k : TakenFrom file words t) (r : Opened) where
   pub open-refused : (why : Refusal) → t .answer ≡ answer.Refused why → checkSays (r .checked) ≡ refusal why → OpenedFrom file words r
@@ -174,7 +175,7 @@ module _ (file words : List ℕ) (t : Taken) (k : TakenFrom file words t) (r : O
       → OpenedFrom file words r
   unfolding sheetTold
   open-judged q e c =
-      let is : takenTold file ≡ given tt = sym (k .says) ∙ ap told q in
+      let is : takenTold file ≡ given tt = sym (k .says) ∙ ap answerSays q in
       let h = taken-held file words t k q in
       record {
         says = c ∙ rw (is, h .registers, h .video, h .cursor);
@@ -187,9 +188,9 @@ unfolding takenTold
 few-words file e = go (ltb mostInput (length file)) refl (readTold file) refl e
   where
     go : (b : Bool) → ltb mostInput (length file) ≡ b → (t : Told Sections) → readTold file ≡ t
-        → andThen (pick b (refused 15 0) (given (length file))) (λ _. andThen t (λ _. loadTold (registerWords file))) ≡ given tt → rOf file ≤ 16380
+        → andThen (pick b (refused (why 15 0)) (given (length file))) (λ _. andThen t (λ _. loadTold (registerWords file))) ≡ given tt → rOf file ≤ 16380
     go true h t q w = never (sym w)
-    go false h (refused n d) q w = never (sym w)
+    go false h (refused v) q w = never (sym w)
     go false h (given p) q w =
         let o = right-ordered file (right-given file p (sym q) .is-right) in
         omega (arith, o .whole, ltb-false mostInput (length file) h)

@@ -9,15 +9,16 @@ use lib.ListN.{length, take}
 use borrow.Author.Tests.{lt-leb, le-leb, eq-eqb, ne-eqb}
 use Rattle.buffers.specs.Values.{valuesFrom}
 use Rattle.buffers.proofs.Values.{painted-values}
-use Rattle.registers.specs.Table.{Told, given, refused, judged, row, andThen, numberOf, detailOf}
+use Rattle.refusals.specs.Table.{Told, given, refused, judged, row, andThen}
+use Rattle.refusals.specs.Refusals.{whyOf}
 use Rattle.registers.specs.Check.{checkTold, checkSays}
 use Rattle.registers.specs.declared.record.Registers.{Registers}
-use Rattle.registers.specs.declared.refusal.Refusal.{Refusal}
+use Rattle.refusals.specs.declared.Refusal.{Refusal}
 use Rattle.registers.specs.declared.setting.Setting.{Setting}
 use Rattle.registers.specs.declared.check.Checked.the-variants as checked
-use Rattle.registers.proofs.Tables.{never, given-passes}
+use Rattle.refusals.proofs.Tables.{never, given-passes}
 use Rattle.registers.proofs.Accepted.{Accepted, accepted}
-use Rattle.frame.specs.Frame.{wordsWrong, rasterCell, rasterHeld}
+use Rattle.frame.specs.Frame.{wordsWrong, rasterCell, rasterLeaves}
 use Rattle.frame.proofs.Calls.{raster-held}
 use Rattle.marks.specs.Marks.{marksOf, marksTold, marksSays}
 use Rattle.marks.proofs.Answers.{marks-told}
@@ -26,7 +27,7 @@ use Rattle.marks.specs.declared.answer.Marks.the-variants as marks
 use Rattle.runs.specs.Runs.{lineOf}
 use Rattle.buffers.specs.Put.{Put}
 use Rattle.runs.specs.Sheet.{registersOf, videoList, cursorList, takenTold, pictureTold, sheetTold, Held, OpenedFrom}
-use Rattle.runs.specs.Text.{refusedLine, rasterLine, headOf, pictureLine, lineFor, lineAt, linesFor, sheetLine, Sheet}
+use Rattle.runs.specs.Text.{refusedLine, rasterLine, pictureHead, pictureLine, lineFor, lineAt, linesFor, sheetLine, Sheet}
 use Rattle.runs.specs.declared.sheet.Opened.{Opened}
 
 -- a picture that is not refused
@@ -37,7 +38,7 @@ module _ (g : Registers) (video cursor : List ℕ) (s : Setting) (e : pictureTol
     where
       go : (t : Told Setting) → checkTold g ≡ t → andThen t (λ s. judged (row 11 (wordsWrong s video cursor) 0 ∷ []) s) ≡ given s
           → (checkTold g ≡ given s) × (wordsWrong s video cursor ≡ false)
-      go (refused n d) q h = never (sym h)
+      go (refused w) q h = never (sym h)
       go (given z) q h =
           let p = given-passes z (row 11 (wordsWrong z video cursor) 0 ∷ []) s h in
           (q ∙ ap given (p .1), sym (ap (λ (x : Setting). wordsWrong x video cursor) (p .1)) ∙ p .0 .0)
@@ -49,7 +50,7 @@ module _ (g : Registers) (video cursor : List ℕ) (s : Setting) (e : pictureTol
   marks-given threshold = marks-told g s video cursor threshold (picture-parts .0) (picture-parts .1)
 
   -- the cells of a raster, as they stand in lent memory
-  pub raster-values : (y : ℕ) (o cells : List ℕ) → y < s .v .0 → s .n .0 ≤ length o → cells ≡ rasterHeld g video cursor y o
+  pub raster-values : (y : ℕ) (o cells : List ℕ) → y < s .v .0 → s .n .0 ≤ length o → cells ≡ rasterLeaves g video cursor y o
       → take (s .n .0) cells ≡ valuesFrom (rasterCell g s video cursor y) 0 (s .n .0)
   raster-values y o cells a b h =
       ap (take (s .n .0)) (h ∙ raster-held g s video cursor y (picture-parts .0) (picture-parts .1) a o b)
@@ -62,7 +63,7 @@ module _ (g : Registers) (video cursor : List ℕ) (s : Setting) (e : pictureTol
   marks-never x why h q = never (sym (marks-given 128) ∙ (sym h ∙ ap marksSays q))
 
   -- the lines of a picture, by its tests
-  pub line-head : (k : ℕ) → k ≡ 0 → pictureLine g s video cursor k ≡ headOf g s video cursor
+  pub line-head : (k : ℕ) → k ≡ 0 → pictureLine g s video cursor k ≡ pictureHead g s video cursor
   unfolding pictureLine
   line-head k e = rw (eq-eqb k 0 e)
 
@@ -81,7 +82,7 @@ told-picture file s e = go (takenTold file) e
   where
     go : (t : Told (Unit {0})) → andThen t (λ _. pictureTold (registersOf file) (videoList file) (cursorList file)) ≡ given s
         → pictureTold (registersOf file) (videoList file) (cursorList file) ≡ given s
-    go (refused n d) h = never (sym h)
+    go (refused w) h = never (sym h)
     go (given u) h = h
 
 -- a plate opened, and its line
@@ -91,7 +92,7 @@ module _ (file words : List ℕ) (k : ℕ) (r : Opened) (o : OpenedFrom file wor
     unfolding lineAt
     refused-later h = rw (← o .says, q, ne-eqb k 0 (λ e. omega arith))
 
-    pub refused-first : k ≤ 0 → lineAt file k ≡ refusedLine (numberOf why) (detailOf why)
+    pub refused-first : k ≤ 0 → lineAt file k ≡ refusedLine (whyOf why)
     unfolding lineAt
     refused-first h = rw (← o .says, q, eq-eqb k 0 (omega arith))
 
@@ -127,4 +128,4 @@ no-more file k h = go (sheetTold file) h
   where
     go : (t : Told Setting) → linesFor t ≤ k → lineFor file k t ≡ []
     go (given s) h = rw (ne-eqb k 0 (λ e. omega arith), lt-leb (k) (s .v .0) (omega arith))
-    go (refused n d) h = rw (ne-eqb k 0 (λ e. omega arith))
+    go (refused w) h = rw (ne-eqb k 0 (λ e. omega arith))

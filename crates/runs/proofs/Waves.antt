@@ -11,17 +11,18 @@ use lib.IntN.{ℤ}
 use borrow.Author.Tests.{eq-eqb, ne-eqb}
 use Rattle.buffers.specs.Put.{Put}
 use Rattle.buffers.proofs.Split.{lt-or-le}
-use Rattle.registers.specs.Table.{Told, given, refused, refusal, told, andThen, numberOf, detailOf}
+use Rattle.refusals.specs.Table.{Why, Told, given, refused, andThen}
+use Rattle.refusals.specs.Refusals.{refusal, answerSays, whyOf}
 use Rattle.registers.specs.Stereo.{frequencyOf}
 use Rattle.registers.specs.Sound.{soundTold}
 use Rattle.registers.specs.declared.record.Registers.{Registers}
-use Rattle.registers.specs.declared.refusal.Refusal.{Refusal}
-use Rattle.registers.specs.declared.refusal.Answer.the-variants as answer
-use Rattle.registers.proofs.Tables.{never}
+use Rattle.refusals.specs.declared.Refusal.{Refusal}
+use Rattle.refusals.specs.declared.Answer.the-variants as answer
+use Rattle.refusals.proofs.Tables.{never}
 use Rattle.sound.specs.Play.{playLeaves, playedOf}
 use Rattle.sound.specs.Values.{counterAfter}
 use Rattle.sound.proofs.Parts.{length-played, played-none, played-append, playing}
-use Rattle.waves.specs.Head.{headOf}
+use Rattle.waves.specs.Head.{waveHead}
 use Rattle.waves.specs.Samples.{samplesOf, samplesIn}
 use Rattle.waves.proofs.Stored.{some-room, samples-append, samples-none}
 use Rattle.runs.specs.Sheet.{part, registersOf, soundList, takenTold, Held, TakenFrom}
@@ -32,7 +33,7 @@ use Rattle.runs.proofs.Sheets.{taken-held, few-sounds}
 
 -- a plate taken apart and judged for its sound
 module _ (file words : List ℕ) (t : Taken) (k : TakenFrom file words t) (r : Taken) where
-  pub hear-refused : (why : Refusal) → t .answer ≡ answer.Refused why → told (r .answer) ≡ refusal why → HeardFrom file words r
+  pub hear-refused : (why : Refusal) → t .answer ≡ answer.Refused why → answerSays (r .answer) ≡ refusal why → HeardFrom file words r
   unfolding waveTold
   hear-refused why q c =
       record {
@@ -40,10 +41,10 @@ module _ (file words : List ℕ) (t : Taken) (k : TakenFrom file words t) (r : T
         held = λ h. never (sym (rw (← k .says, q) at h));
       }
 
-  pub hear-judged : t .answer ≡ answer.Done → r .parts ≡ t .parts → told (r .answer) ≡ soundTold (t .parts .registers) → HeardFrom file words r
+  pub hear-judged : t .answer ≡ answer.Done → r .parts ≡ t .parts → answerSays (r .answer) ≡ soundTold (t .parts .registers) → HeardFrom file words r
   unfolding waveTold
   hear-judged q e c =
-      let is : takenTold file ≡ given tt = sym (k .says) ∙ ap told q in
+      let is : takenTold file ≡ given tt = sym (k .says) ∙ ap answerSays q in
       let h = taken-held file words t k q in
       record {
         says = c ∙ rw (is, h .registers);
@@ -57,7 +58,7 @@ wave-parts file e = go (takenTold file) refl e
   where
     go : (t : Told (Unit {0})) → takenTold file ≡ t → andThen t (λ _. soundTold (registersOf file)) ≡ given tt
         → (takenTold file ≡ given tt) × (soundTold (registersOf file) ≡ given tt)
-    go (refused n d) q h = never (sym h)
+    go (refused w) q h = never (sym h)
     go (given u) q h = (q, h)
 
 wave-taken : (file : List ℕ) → waveTold file ≡ given tt → takenTold file ≡ given tt
@@ -65,7 +66,7 @@ wave-taken file e = wave-parts file e .0
 
 -- what is heard
 module _ (file words : List ℕ) (r : Taken) (h : HeardFrom file words r) where
-  pub line-refused : (why : Refusal) → r .answer ≡ answer.Refused why → waveRefusal file ≡ refusedLine (numberOf why) (detailOf why)
+  pub line-refused : (why : Refusal) → r .answer ≡ answer.Refused why → waveRefusal file ≡ refusedLine (whyOf why)
   unfolding waveRefusal
   line-refused why q = rw (← h .says, q)
 
@@ -79,7 +80,7 @@ module _ (file words : List ℕ) (r : Taken) (h : HeardFrom file words r) where
 
   module _ (q : r .answer ≡ answer.Done) where
     heard : waveTold file ≡ given tt
-    heard = sym (h .says) ∙ ap told q
+    heard = sym (h .says) ∙ ap answerSays q
 
     pub heard-held : Held file words (r .parts)
     heard-held = h .held heard
@@ -130,7 +131,7 @@ module _ (g : Registers) (words : List ℕ) (k : ℕ) where
       let d : 256 * k + 256 - 256 * k ≡ 256 = omega arith in
       rw (c, d)
 
-  pub file-head : k ≡ 0 → waveBlock g words k ≡ headOf (frequencyOf g) (length words)
+  pub file-head : k ≡ 0 → waveBlock g words k ≡ waveHead (frequencyOf g) (length words)
   unfolding waveBlock
   file-head e = rw (eq-eqb k 0 e)
 
@@ -167,7 +168,7 @@ module _ (g : Registers) (words : List ℕ) where
 
 -- the first blocks of a file, where it is not refused and where it is
 module _ (file : List ℕ) where
-  given-head : waveTold file ≡ given tt → blockAt file 0 ≡ headOf (frequencyOf (registersOf file)) (length (soundList file))
+  given-head : waveTold file ≡ given tt → blockAt file 0 ≡ waveHead (frequencyOf (registersOf file)) (length (soundList file))
   unfolding blockAt waveBlock
   given-head e = rw e
 
@@ -186,10 +187,10 @@ module _ (file : List ℕ) where
       ∙ (ap (λ (l : List ℕ). firstBlocks file (suc k) ++ l) (sym (split (registersOf file) (soundList file) k (omega arith)))
       ∙ blocks-so-far k e (omega arith)))
 
-  no-blocks : (n d k : ℕ) → waveTold file ≡ refused n d → firstBlocks file k ≡ []
+  no-blocks : (w : Why) (k : ℕ) → waveTold file ≡ refused w → firstBlocks file k ≡ []
   unfolding firstBlocks blockAt
-  no-blocks n d zero e = refl
-  no-blocks n d (suc k) e = rw (no-blocks n d k e, e)
+  no-blocks w zero e = refl
+  no-blocks w (suc k) e = rw (no-blocks w k e, e)
 
   -- A plate's blocks, one after the other, are its file; past the last of 64 there is none.
   pub wave-blocks : firstBlocks file 65 ≡ waveOf file
@@ -197,7 +198,7 @@ module _ (file : List ℕ) where
   wave-blocks = go (waveTold file) refl
     where
       go : (t : Told (Unit {0})) → waveTold file ≡ t → firstBlocks file 65 ≡ waveOf file
-      go (refused n d) e = no-blocks n d 65 e ∙ rw e
+      go (refused w) e = no-blocks w 65 e ∙ rw e
       go (given u) e =
           let few = few-sounds file (wave-taken file e) in
           let none : rest (registersOf file) (soundList file) 64 ≡ [] =
@@ -209,7 +210,7 @@ module _ (file : List ℕ) where
   no-more-blocks k h = go (waveTold file) refl
     where
       go : (t : Told (Unit {0})) → waveTold file ≡ t → blockFor file k t ≡ []
-      go (refused n d) e = refl
+      go (refused w) e = refl
       go (given u) e =
           let few = few-sounds file (wave-taken file e) in
           rw (ne-eqb k 0 (λ q. omega arith)) (block-none (registersOf file) (soundList file) (k - 1) (omega (arith, few)))

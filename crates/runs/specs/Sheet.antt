@@ -4,7 +4,8 @@ use mathlib.Core.Path.{_≡_}
 use mathlib.Core.List.{List, [], _∷_}
 use lib.ListN.{length, take, drop}
 use lib.Dec.{ltb}
-use Rattle.registers.specs.Table.{Told, given, row, judged, andThen, told}
+use Rattle.refusals.specs.Table.{Told, given, row, judged, andThen}
+use Rattle.refusals.specs.Refusals.{answerSays}
 use Rattle.registers.specs.Record.{fresh}
 use Rattle.registers.specs.Load.{applied, loadTold}
 use Rattle.registers.specs.Check.{checkTold, checkSays}
@@ -67,7 +68,7 @@ pub record Held (file words : List ℕ) (p : Parts) : Type 0 where
   pub sound : part words (p .sound) (p .end) ≡ soundList file
 
 pub record TakenFrom (file words : List ℕ) (r : Taken) : Type 0 where
-  pub says : told (r .answer) ≡ takenTold file
+  pub says : answerSays (r .answer) ≡ takenTold file
   pub held : takenTold file ≡ given tt → Held file words (r .parts)
 
 pub record OpenedFrom (file words : List ℕ) (r : Opened) : Type 0 where

@@ -3,7 +3,7 @@ use Prim.Native.Nat.{ℕ, zero, suc, _+_, _-_}
 use mathlib.Core.List.{List, [], _∷_, _++_}
 use lib.Dec.{eqb, leb}
 use Rattle.buffers.specs.Pick.{pick}
-use Rattle.registers.specs.Table.{Told, given, refused}
+use Rattle.refusals.specs.Table.{Told, given, refused}
 use Rattle.registers.specs.declared.record.Registers.{Registers}
 use Rattle.registers.specs.declared.setting.Setting.{Setting}
 use Rattle.frame.specs.Frame.{rasterCell}
@@ -30,7 +30,7 @@ pictureStrip g s video cursor k =
 -- A refused plate has no picture.
 abbrev pub stripFor : List ℕ → ℕ → Told Setting → List ℕ
 stripFor file k (given s) = pictureStrip (registersOf file) s (videoList file) (cursorList file) k
-stripFor file k (refused n d) = []
+stripFor file k (refused w) = []
 
 unfoldable pub stripAt : List ℕ → ℕ → List ℕ
 stripAt file k = stripFor file k (sheetTold file)
@@ -42,7 +42,7 @@ sheetStrip p s words k = pictureStrip (p .registers) s (part words (p .video) (p
 -- The whole file: the strips one after the other.
 abbrev pub stripsFor : Told Setting → ℕ
 stripsFor (given s) = 1 + s .v .0
-stripsFor (refused n d) = 0
+stripsFor (refused w) = 0
 
 unfoldable pub firstStrips : List ℕ → ℕ → List ℕ
 firstStrips file zero = []

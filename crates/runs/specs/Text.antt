@@ -6,7 +6,7 @@ use lib.ListN.{length}
 use lib.Dec.{eqb, leb}
 use Rattle.buffers.specs.Pick.{pick}
 use Rattle.buffers.specs.Values.{valuesFrom}
-use Rattle.registers.specs.Table.{Told, given, refused}
+use Rattle.refusals.specs.Table.{Told, given, refused}
 use Rattle.registers.specs.declared.record.Registers.{Registers}
 use Rattle.registers.specs.declared.setting.Setting.{Setting}
 use Rattle.frame.specs.Frame.{rasterCell}
@@ -25,8 +25,8 @@ unfoldable pub pairLine : List ℕ → ℕ → ℕ → List ℕ → List ℕ
 pairLine label a b end = labelled label a ++ (labelled (32 ∷ []) b ++ end)
 
 -- `refused`, number, detail.
-abbrev pub refusedLine : ℕ → ℕ → List ℕ
-refusedLine n d = pairLine (114 ∷ 101 ∷ 102 ∷ 117 ∷ 115 ∷ 101 ∷ 100 ∷ 32 ∷ []) n d (10 ∷ [])
+abbrev pub refusedLine : Why → List ℕ
+refusedLine w = pairLine (114 ∷ 101 ∷ 102 ∷ 117 ∷ 115 ∷ 101 ∷ 100 ∷ 32 ∷ []) (w .number) (w .detail) (10 ∷ [])
 
 -- `frame N V words W marks M`.
 unfoldable pub headLine : ℕ → ℕ → ℕ → ℕ → List ℕ
@@ -41,18 +41,18 @@ unfoldable pub rasterLine : Registers → Setting → List ℕ → List ℕ → 
 rasterLine g s video cursor y = lineOf (valuesFrom (rasterCell g s video cursor y) 0 (s .n .0))
 
 -- The head of a picture: the marks are those of threshold 128.
-unfoldable pub headOf : Registers → Setting → List ℕ → List ℕ → List ℕ
-headOf g s video cursor = headLine (s .n .0) (s .v .0) (length video) (marksOf g s video cursor 128)
+unfoldable pub pictureHead : Registers → Setting → List ℕ → List ℕ → List ℕ
+pictureHead g s video cursor = headLine (s .n .0) (s .v .0) (length video) (marksOf g s video cursor 128)
 
 -- Line k of a plate: 0 is the head; then one for each raster; none after them.
 unfoldable pub pictureLine : Registers → Setting → List ℕ → List ℕ → ℕ → List ℕ
 pictureLine g s video cursor k =
-    pick (eqb k 0) (headOf g s video cursor)
+    pick (eqb k 0) (pictureHead g s video cursor)
     (pick (leb k (s .v .0)) (rasterLine g s video cursor (k - 1)) [])
 
 abbrev pub lineFor : List ℕ → ℕ → Told Setting → List ℕ
 lineFor file k (given s) = pictureLine (registersOf file) s (videoList file) (cursorList file) k
-lineFor file k (refused n d) = pick (eqb k 0) (refusedLine n d) []
+lineFor file k (refused w) = pick (eqb k 0) (refusedLine w) []
 
 unfoldable pub lineAt : List ℕ → ℕ → List ℕ
 lineAt file k = lineFor file k (sheetTold file)
@@ -70,7 +70,7 @@ pub record Sheet (p : Parts) (s : Setting) (words : List ℕ) : Type 0 where
 -- How many lines there are, and the whole text: they stand one after the other.
 abbrev pub linesFor : Told Setting → ℕ
 linesFor (given s) = 1 + s .v .0
-linesFor (refused n d) = 1
+linesFor (refused w) = 1
 
 unfoldable pub firstLines : List ℕ → ℕ → List ℕ
 firstLines file zero = []

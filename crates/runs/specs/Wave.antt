@@ -5,12 +5,13 @@ use mathlib.Core.List.{List, [], _++_}
 use lib.ListN.{length, take, drop}
 use lib.Dec.{eqb}
 use Rattle.buffers.specs.Pick.{pick}
-use Rattle.registers.specs.Table.{Told, given, refused, andThen, told}
+use Rattle.refusals.specs.Table.{Told, given, refused, andThen}
+use Rattle.refusals.specs.Refusals.{answerSays}
 use Rattle.registers.specs.Stereo.{frequencyOf}
 use Rattle.registers.specs.Sound.{soundTold}
 use Rattle.registers.specs.declared.record.Registers.{Registers}
 use Rattle.sound.specs.Play.{playedOf}
-use Rattle.waves.specs.Head.{headOf}
+use Rattle.waves.specs.Head.{waveHead}
 use Rattle.waves.specs.Samples.{samplesOf}
 use Rattle.runs.specs.Sheet.{registersOf, soundList, takenTold, Held}
 use Rattle.runs.specs.Text.{refusedLine}
@@ -23,8 +24,8 @@ waveTold file = andThen (takenTold file) (λ _. soundTold (registersOf file))
 -- The whole file: a plate that is refused has none.
 abbrev pub waveFor : List ℕ → Told (Unit {0}) → List ℕ
 waveFor file (given u) =
-    headOf (frequencyOf (registersOf file)) (length (soundList file)) ++ samplesOf (playedOf (registersOf file) 0 (soundList file))
-waveFor file (refused n d) = []
+    waveHead (frequencyOf (registersOf file)) (length (soundList file)) ++ samplesOf (playedOf (registersOf file) 0 (soundList file))
+waveFor file (refused w) = []
 
 unfoldable pub waveOf : List ℕ → List ℕ
 waveOf file = waveFor file (waveTold file)
@@ -35,11 +36,11 @@ soundBlock g words k = samplesOf (playedOf g (1024 * k) (take 256 (drop (256 * k
 
 -- Block k of a file: 0 is the head; then the samples' blocks; none after them.
 unfoldable pub waveBlock : Registers → List ℕ → ℕ → List ℕ
-waveBlock g words k = pick (eqb k 0) (headOf (frequencyOf g) (length words)) (soundBlock g words (k - 1))
+waveBlock g words k = pick (eqb k 0) (waveHead (frequencyOf g) (length words)) (soundBlock g words (k - 1))
 
 abbrev pub blockFor : List ℕ → ℕ → Told (Unit {0}) → List ℕ
 blockFor file k (given u) = waveBlock (registersOf file) (soundList file) k
-blockFor file k (refused n d) = []
+blockFor file k (refused w) = []
 
 unfoldable pub blockAt : List ℕ → ℕ → List ℕ
 blockAt file k = blockFor file k (waveTold file)
@@ -51,12 +52,12 @@ firstBlocks file (suc n) = firstBlocks file n ++ blockAt file n
 -- The line that refuses a plate's sound; none where it is not refused.
 abbrev pub refusalFor : Told (Unit {0}) → List ℕ
 refusalFor (given u) = []
-refusalFor (refused n d) = refusedLine n d
+refusalFor (refused w) = refusedLine w
 
 unfoldable pub waveRefusal : List ℕ → List ℕ
 waveRefusal file = refusalFor (waveTold file)
 
 -- A plate taken apart and judged for its sound.
 pub record HeardFrom (file words : List ℕ) (r : Taken) : Type 0 where
-  pub says : told (r .answer) ≡ waveTold file
+  pub says : answerSays (r .answer) ≡ waveTold file
   pub held : waveTold file ≡ given tt → Held file words (r .parts)

@@ -2,13 +2,13 @@
 use plates::Reading;
 use registers::check::Checked;
 use registers::record::Registers;
-use registers::refusal::Answer;
-use registers::refusal::Refusal;
+use refusals::Answer;
+use refusals::Refusal;
 ghost use mathlib.Core.Path.{_≡_};
 ghost use Prim.Native.Nat.{_≤_};
 ghost use lib.ListN.{length};
 ghost use Rattle.registers.specs.Check.{checkSays};
-ghost use Rattle.registers.specs.Table.{told, refusal};
+ghost use Rattle.refusals.specs.Refusals.{answerSays, refusal};
 ghost use Rattle.runs.specs.Sheet.{pictureTold, TakenFrom, OpenedFrom};
 
 // The most bytes that the programs take.
@@ -45,7 +45,7 @@ fn no_parts() -> Parts {
 }
 
 fn not_taken(why: Refusal) -> Taken
-    ensures { λ r. ⌜ told (r .answer) ≡ refusal why ⌝ }
+    ensures { λ r. ⌜ answerSays (r .answer) ≡ refusal why ⌝ }
 {
     Taken {
         parts: no_parts(),

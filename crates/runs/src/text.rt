@@ -12,10 +12,10 @@ use registers::units::Rasters;
 ghost use mathlib.Core.Path.{_≡_};
 ghost use Prim.Native.Nat.{_<_, _≤_};
 ghost use lib.ListN.{length};
-ghost use Rattle.registers.specs.Table.{given};
+ghost use Rattle.refusals.specs.Table.{given};
 ghost use Rattle.buffers.specs.Put.{Put};
 ghost use Rattle.runs.specs.Sheet.{pictureTold};
-ghost use Rattle.runs.specs.Text.{headOf, rasterLine, pictureLine, lineAt, Sheet, sheetLine};
+ghost use Rattle.runs.specs.Text.{pictureHead, rasterLine, pictureLine, lineAt, Sheet, sheetLine};
 
 // The threshold of the head's mark count.
 const THRESHOLD: u8 = 128;
@@ -23,7 +23,7 @@ const THRESHOLD: u8 = 128;
 // The head of a plate that is not refused.
 fn head_line(out: &mut [u8], g: Registers, s: Setting, video: &[u32], cursor: &[u32]) -> usize
     requires { ⌜ (8256 ≤ length (now out)) × (length (now video) < 65536) × (pictureTold g (now video) (now cursor) ≡ given s) ⌝ }
-    ensures { λ r. ⌜ Put (now (out .entry)) (now (out .exit)) 0 (headOf g s (now (video .entry)) (now (cursor .entry))) r ⌝ }
+    ensures { λ r. ⌜ Put (now (out .entry)) (now (out .exit)) 0 (pictureHead g s (now (video .entry)) (now (cursor .entry))) r ⌝ }
 {
     match marks::marks(g, video, cursor, THRESHOLD) {
         Marks::Count(marks) => put_head(out, s.n.0 as u32, s.v.0 as u32, video.len() as u32, marks),

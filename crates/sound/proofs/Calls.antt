@@ -8,7 +8,7 @@ use lib.ListN.{length}
 use lib.Seq.{sets}
 use borrow.Author.Tests.{lt-ltb, le-ltb}
 use Rattle.buffers.specs.Words.{bytesOf}
-use Rattle.registers.specs.Table.{Told, given, refused, unlessRefused}
+use Rattle.refusals.specs.Table.{why, Why, Told, given, refused, unlessRefused}
 use Rattle.registers.specs.Sound.{soundTold}
 use Rattle.registers.specs.declared.record.Registers.{Registers}
 use Rattle.sound.specs.Sixths.{leftAt, rightAt, eight}
@@ -24,11 +24,11 @@ module _ (g : Registers) (words : List ℕ) (counter : ℕ) (out : List ℤ) whe
       × (c ≡ unlessRefused (playTold g (length words) (length out)) counter (counterAfter counter (4 * length words)))
       × (after ≡ unlessRefused (playTold g (length words) (length out)) out (sets out 0 (playedOf g counter words)))
 
-  pub play-refused : (n d : ℕ) → refused n d ≡ soundTold g → Promised (refused n d) counter out
+  pub play-refused : (w : Why) → refused w ≡ soundTold g → Promised (refused w) counter out
   unfolding playTold
-  play-refused n d e = (rw (← e), rw (← e), rw (← e))
+  play-refused w e = (rw (← e), rw (← e), rw (← e))
 
-  pub play-short : given tt ≡ soundTold g → length out / 8 < length words → Promised (refused 13 0) counter out
+  pub play-short : given tt ≡ soundTold g → length out / 8 < length words → Promised (refused (why 13 0)) counter out
   unfolding playTold
   play-short e h =
       let t = lt-ltb (length out) (8 * length words) (omega arith) in

@@ -7,7 +7,7 @@ use lib.ListN.{length}
 use borrow.Author.Tests.{le-ltb}
 use Rattle.buffers.specs.Words.{bytesOf}
 use Rattle.buffers.proofs.Words.{length-bytes, bytes-append}
-use Rattle.registers.specs.Table.{given}
+use Rattle.refusals.specs.Table.{given}
 use Rattle.registers.specs.Sound.{soundTold}
 use Rattle.registers.specs.declared.record.Registers.{Registers}
 use Rattle.sound.specs.Sixths.{leftAt, rightAt}

@@ -16,7 +16,8 @@ use denote.Ref.{now}
 use Rattle.buffers.specs.Words.{bytesOf, byteOf}
 use Rattle.buffers.proofs.Words.{length-bytes, bytes-at}
 use Rattle.buffers.proofs.Sets.{sets-at, sets-beyond}
-use Rattle.registers.specs.Table.{Told, given, told, unlessRefused}
+use Rattle.refusals.specs.Table.{Told, given, unlessRefused}
+use Rattle.refusals.specs.Refusals.{answerSays}
 use Rattle.registers.specs.declared.record.Registers.{Registers}
 use Rattle.sound.specs.Amplitude.{valueOf}
 use Rattle.sound.specs.Sixths.{leftOf, rightOf, leftAt, rightAt}
@@ -137,7 +138,7 @@ pair-within byte stereo b lo hi = (omega arith, value-range byte (leftOf stereo)
 -- Of the sound call's own promises: the counter afterwards, and every place.
 pub every-place :
     (κs : Lfts 2) (a : Dens κs play-kinds.ps) (x : resT play-kinds.r κs .Denot) (s : AtExit (endedOf 2 play-kinds.ps play-kinds.r) κs)
-    → play-reads.Post κs a x s → told (x .answer) ≡ given tt
+    → play-reads.Post κs a x s → answerSays (x .answer) ≡ given tt
     → (x .counter ≡ (a .1 .1 .0 + 4 * length (now (a .1 .0))) % 2 ^ 32)
     × EveryPlace (a .0) (now (a .1 .0)) (a .1 .1 .0) (now (a .1 .1 .1 .0)) (now (s .1 .1 .1 .0))
 unfolding playedOf

@@ -2,9 +2,9 @@
 use mathlib.Core.Path.{_≡_, sym, _∙_, ap}
 use denote.Ref.{now}
 use Rattle.buffers.proofs.Coincide.{OneAnswer, OneState}
-use Rattle.registers.proofs.Tables.{never}
-use Rattle.registers.proofs.Told.{same-refusal, same-answer}
-use Rattle.sound.specs.Pair.{toldPair}
+use Rattle.refusals.proofs.Tables.{never}
+use Rattle.refusals.proofs.Told.{same-refusal, same-answer}
+use Rattle.sound.specs.Pair.{pairSays}
 use Rattle.sound.specs.declared.Played.{Played}
 use Rattle.sound.specs.declared.Pairing.{Pairing}
 use Rattle.sound.specs.declared.Pairing.the-variants as pairing
@@ -13,7 +13,7 @@ use Rattle.sound.proofs.pair.Reads as pair-reads
 use Rattle.sound.proofs.play.Kinds as play-kinds
 use Rattle.sound.proofs.play.Reads as play-reads
 
-same-pairing : (x y : Pairing) → toldPair x ≡ toldPair y → x ≡ y
+same-pairing : (x y : Pairing) → pairSays x ≡ pairSays y → x ≡ y
 same-pairing (pairing.Given s) (pairing.Given t) e = ap pairing.Given (let q : s ≡ t = cc in q)
 same-pairing (pairing.Given s) (pairing.Refused q) e = never e
 same-pairing (pairing.Refused r) (pairing.Given t) e = never (sym e)

@@ -2,7 +2,8 @@
 use Prim.Native.Nat.{ℕ, _%_}
 use mathlib.Core.List.{[], _∷_}
 use lib.Dec.{eqb}
-use Rattle.registers.specs.Table.{Told, row, judged, given, refusal}
+use Rattle.refusals.specs.Table.{Told, row, judged, given}
+use Rattle.refusals.specs.Refusals.{refusal}
 use Rattle.sound.specs.Amplitude.{valueOf}
 use Rattle.sound.specs.Sixths.{leftOf, rightOf}
 use Rattle.sound.specs.declared.Sides.{Sides}
@@ -10,9 +11,9 @@ use Rattle.sound.specs.declared.Pairing.{Pairing}
 use Rattle.sound.specs.declared.Pairing.the-variants.{Given, Refused}
 
 -- An answer as the paper has it.
-abbrev pub toldPair : Pairing → Told Sides
-toldPair (Given sides) = given sides
-toldPair (Refused why) = refusal why
+abbrev pub pairSays : Pairing → Told Sides
+pairSays (Given sides) = given sides
+pairSays (Refused why) = refusal why
 
 abbrev pub sidesOf : ℕ → ℕ → Sides
 sidesOf byte stereo = record { left = valueOf byte (leftOf stereo); right = valueOf byte (rightOf stereo) }

@@ -6,7 +6,7 @@ use lib.IntN.{ℤ}
 use lib.ListN.{length}
 use lib.Seq.{sets}
 use Rattle.buffers.specs.Words.{bytesOf}
-use Rattle.registers.specs.Table.{Told, row, judged, andThen, unlessRefused}
+use Rattle.refusals.specs.Table.{Told, row, judged, andThen, unlessRefused}
 use Rattle.registers.specs.Sound.{soundTold}
 use Rattle.registers.specs.declared.record.Registers.{Registers}
 use Rattle.sound.specs.Sixths.{leftAt, rightAt}

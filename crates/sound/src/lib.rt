@@ -6,8 +6,8 @@ mod values;
 use amplitude::amplitudes;
 use amplitude::value;
 use registers::record::Registers;
-use registers::refusal::Answer;
-use registers::refusal::Refusal;
+use refusals::Answer;
+use refusals::Refusal;
 use sixths::left_of;
 use sixths::lefts;
 use sixths::right_of;
@@ -15,9 +15,9 @@ use sixths::rights;
 use values::put_words;
 ghost use mathlib.Core.Path.{_≡_};
 ghost use lib.ListN.{length};
-ghost use Rattle.registers.specs.Table.{told};
+ghost use Rattle.refusals.specs.Refusals.{answerSays};
 ghost use Rattle.sound.specs.Play.{playTold, playLeaves, playCounts};
-ghost use Rattle.sound.specs.Pair.{toldPair, pairTold};
+ghost use Rattle.sound.specs.Pair.{pairSays, pairTold};
 
 // The counter after the last byte, or as it came where the answer is a refusal.
 pub struct Played {
@@ -38,7 +38,7 @@ pub enum Pairing {
 
 // One byte's pair for a stereo value, of which the three lowest bits count: 10 where they are 0.
 pub fn pair(byte: u8, stereo: u8) -> Pairing
-    ensures { λ r. ⌜ toldPair r ≡ pairTold byte stereo ⌝ }
+    ensures { λ r. ⌜ pairSays r ≡ pairTold byte stereo ⌝ }
 {
     let bits = stereo % 8;
     if bits == 0 {
@@ -54,7 +54,7 @@ pub fn pair(byte: u8, stereo: u8) -> Pairing
 // The words' values in lent memory, from its first place on: 8 for each word. 3, 10, then 13.
 pub fn play(registers: Registers, words: &[u32], counter: u32, out: &mut [i16]) -> Played
     ensures { λ r. ⌜
-        (told (r .answer) ≡ playTold registers (length (now (words .entry))) (length (now (out .entry))))
+        (answerSays (r .answer) ≡ playTold registers (length (now (words .entry))) (length (now (out .entry))))
         × (r .counter ≡ playCounts registers (now (words .entry)) counter (now (out .entry)))
         × (now (out .exit) ≡ playLeaves registers (now (words .entry)) counter (now (out .entry)))
         ⌝ }

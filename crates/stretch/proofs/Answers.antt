@@ -8,15 +8,16 @@ use borrow.Author.Tests.{eqb-true, not-false}
 use lib.Dec.{eqb}
 use lib.ListN.{length, take, drop}
 use denote.Ref.{RefT, ptr, now}
-use Rattle.registers.specs.Table.{Told, given, refused, judged, andThen, refusal}
+use Rattle.refusals.specs.Table.{Told, given, refused, judged, andThen}
+use Rattle.refusals.specs.Refusals.{refusal}
 use Rattle.registers.specs.Setting.{videoWords}
 use Rattle.registers.specs.Check.{checkTold, checkSays}
 use Rattle.registers.specs.declared.record.Registers.{Registers}
 use Rattle.registers.specs.declared.setting.Setting.{Setting}
-use Rattle.registers.specs.declared.refusal.Refusal.{Refusal}
+use Rattle.refusals.specs.declared.Refusal.{Refusal}
 use Rattle.registers.specs.declared.check.Checked.{Checked}
 use Rattle.registers.specs.declared.check.Checked.the-variants as checked
-use Rattle.registers.proofs.Tables.{never, given-passes}
+use Rattle.refusals.proofs.Tables.{never, given-passes}
 use Rattle.registers.proofs.Accepted.{Accepted, accepted}
 use Rattle.stretch.specs.Stretch.{stretchOf, stretchTable, stretchTold, foundSays, PartOf, answerTold}
 use Rattle.stretch.specs.declared.found.Stretch.{Stretch}
@@ -48,7 +49,7 @@ module _ (g : Registers) (video : List ℕ) (y : ℕ) {p : Stretch} where
       let w = given-passes (stretchOf s y) (stretchTable s video y) p h in
       let words : length video ≡ videoWords s = eqb-true (length video) (videoWords s) (not-false (eqb (length video) (videoWords s)) (w .0 .0)) in
       rw (← w .1, words) (stretch-room s y (accepted g s e))
-  room-by (refused n d) e h = never (sym h)
+  room-by (refused w) e h = never (sym h)
 
   given-room : stretchTold g video y ≡ given p → p .start + p .count ≤ length video
   unfolding stretchTold

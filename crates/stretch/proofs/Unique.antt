@@ -5,8 +5,8 @@ use contract.Lifetimes.{Lfts}
 use denote.Ref.{ptr, now}
 use denote.Triple.Clauses.{AtExit}
 use Rattle.buffers.proofs.Coincide.{OneAnswer}
-use Rattle.registers.proofs.Told.{same-answer, same-refusal}
-use Rattle.registers.proofs.Tables.{never}
+use Rattle.refusals.proofs.Told.{same-answer, same-refusal}
+use Rattle.refusals.proofs.Tables.{never}
 use Rattle.stretch.specs.Stretch.{foundSays}
 use Rattle.stretch.specs.declared.found.Found.{Found}
 use Rattle.stretch.specs.declared.found.Found.the-variants.{At, Refused}

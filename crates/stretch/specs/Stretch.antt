@@ -7,7 +7,8 @@ use lib.Dec.{leb}
 use lib.ListN.{take, drop}
 use denote.Ref.{RefT, ptr, now}
 use Rattle.buffers.specs.Pick.{pick}
-use Rattle.registers.specs.Table.{Told, given, refused, Row, row, judged, andThen, refusal}
+use Rattle.refusals.specs.Table.{Told, given, refused, Row, row, judged, andThen}
+use Rattle.refusals.specs.Refusals.{refusal}
 use Rattle.registers.specs.Setting.{displayOn, rasterWords}
 use Rattle.registers.specs.Check.{checkTold}
 use Rattle.registers.specs.declared.record.Registers.{Registers}
@@ -46,12 +47,12 @@ foundSays (Refused why) = refusal why
 -- The stretch itself, empty where the call is refused.
 abbrev pub wordsTold : List ℕ → Told Stretch → List ℕ
 wordsTold video (given p) = take (p .count) (drop (p .start) video)
-wordsTold video (refused n d) = []
+wordsTold video (refused w) = []
 
 -- The word that it starts at; the list's first where there is no stretch.
 abbrev pub startTold : Told Stretch → ℕ
 startTold (given p) = p .start
-startTold (refused n d) = 0
+startTold (refused w) = 0
 
 -- A part of a lent list is a stretch of it: it reads the stretch's words, in the list's own memory, 4 bytes on for each word before them.
 pub record PartOf (list part : RefT (List ℕ)) (t : Told Stretch) : Type 0 where

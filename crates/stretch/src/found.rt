@@ -1,11 +1,11 @@
 // Where a raster's words stand in the caller's list.
 use registers::check::Checked;
 use registers::record::Registers;
-use registers::refusal::Refusal;
+use refusals::Refusal;
 use registers::setting::Setting;
 use registers::units::Rasters;
 ghost use mathlib.Core.Path.{_≡_};
-ghost use Rattle.registers.specs.Table.{judged};
+ghost use Rattle.refusals.specs.Table.{judged};
 ghost use Rattle.registers.proofs.Accepted.{Accepted};
 ghost use Rattle.stretch.specs.Stretch.{stretchTable, stretchOf, stretchTold, foundSays};
 

@@ -4,10 +4,10 @@ pub mod found;
 use crate::found::Found;
 use crate::found::find;
 use registers::record::Registers;
-use registers::refusal::Answer;
+use refusals::Answer;
 use registers::units::Rasters;
 ghost use mathlib.Core.Path.{_≡_};
-ghost use Rattle.registers.specs.Table.{told};
+ghost use Rattle.refusals.specs.Refusals.{answerSays};
 ghost use Rattle.stretch.specs.Stretch.{stretchTold, PartOf, answerTold};
 
 // The words of raster y, in the list's own memory; none where it is not displayed, or the call is refused.
@@ -26,7 +26,7 @@ pub fn raster_words(g: Registers, video: &[u32], y: Rasters) -> &[u32]
 
 // The refusal of the call above on the same inputs, or none.
 pub fn raster_words_answer(g: Registers, video: &[u32], y: Rasters) -> Answer
-    ensures { λ r. ⌜ told r ≡ answerTold (stretchTold g (now (video .entry)) (y .0)) ⌝ }
+    ensures { λ r. ⌜ answerSays r ≡ answerTold (stretchTold g (now (video .entry)) (y .0)) ⌝ }
 {
     match find(g, video, y) {
         Found::Refused(why) => Answer::Refused(why),

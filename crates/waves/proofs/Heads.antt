@@ -11,7 +11,7 @@ use Rattle.buffers.specs.Put.{Put}
 use Rattle.buffers.specs.Words.{bytesOf, byteOf}
 use Rattle.buffers.proofs.Words.{length-bytes, bytes-at}
 use Rattle.buffers.proofs.Sets.{sets-turn, sets-done}
-use Rattle.waves.specs.Head.{rateOf, headWords, headOf, headIn}
+use Rattle.waves.specs.Head.{rateOf, headWords, waveHead, headIn}
 
 pub rate-most : (frequency : ℕ) → frequency < 256 → rateOf frequency ≤ 1000128
 rate-most f h = let d = div-le-self (1000000 + (f + 1) / 2) (f + 1) in omega (arith, d)
@@ -30,17 +30,17 @@ pub no-head : (room frequency words : ℕ) → room < 44 → headIn room frequen
 unfolding headIn
 no-head room f w h = rw (lt-ltb room 44 h)
 
-pub some-head : (room frequency words : ℕ) → 44 ≤ room → headIn room frequency words ≡ headOf frequency words
+pub some-head : (room frequency words : ℕ) → 44 ≤ room → headIn room frequency words ≡ waveHead frequency words
 unfolding headIn
 some-head room f w h = rw (le-ltb room 44 h)
 
-pub length-head : (frequency words : ℕ) → length (headOf frequency words) ≡ 44
-unfolding headOf
+pub length-head : (frequency words : ℕ) → length (waveHead frequency words) ≡ 44
+unfolding waveHead
 length-head f w = length-bytes (headWords (rateOf f) w)
 
 pub put-head : (o n ws : List ℕ) (frequency words : ℕ) → 44 ≤ length o → ws ≡ headWords (rateOf frequency) words → n ≡ sets o 0 (bytesOf ws)
     → Put o n 0 (headIn (length o) frequency words) 44
-unfolding headOf
+unfolding waveHead
 put-head o n ws f w h e s = rw (some-head (length o) f w h) (record { stored = s ∙ rw e; after = omega (arith, length-head f w); inside = h })
 
 -- no other whole number of frames a second is nearer to a million by the period

@@ -26,9 +26,9 @@ headWords rate words =
     ∷ (16 * words)
     ∷ []
 
-unfoldable pub headOf : ℕ → ℕ → List ℕ
-headOf frequency words = bytesOf (headWords (rateOf frequency) words)
+unfoldable pub waveHead : ℕ → ℕ → List ℕ
+waveHead frequency words = bytesOf (headWords (rateOf frequency) words)
 
 -- None where there is no room for all of it.
 unfoldable pub headIn : ℕ → ℕ → ℕ → List ℕ
-headIn room frequency words = pick (ltb room 44) [] (headOf frequency words)
+headIn room frequency words = pick (ltb room 44) [] (waveHead frequency words)

@@ -19,7 +19,7 @@ judged-frame-requires : tie.Need-judged-frame-requires
 judged-frame-requires c κs = accepted (c .before .before .before .before .before .before .before .before .args .g) _ (sym (c .before .before .before .before .check .ensures) ∙ ap checkSays (c .before .before .checked2 .given .1))
 
 returns : tie.Need-returns
-returns c = frame-refused (c .before .before .before .before .before .before .before .args .g) _ _ _ _ _ (sym (c .before .before .before .check .ensures) ∙ ap checkSays (c .before .checked .given .1))
+returns c = frame-refused (c .before .before .before .before .before .before .before .args .g) _ _ _ _ (sym (c .before .before .before .check .ensures) ∙ ap checkSays (c .before .checked .given .1))
 
 same-length : tie.Need-same-length
 same-length c = search needs

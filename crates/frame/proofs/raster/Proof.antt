@@ -19,7 +19,7 @@ judged-raster-requires : tie.Need-judged-raster-requires
 judged-raster-requires c κs = accepted (c .before .before .before .before .before .before .before .before .args .g) _ (sym (c .before .before .before .before .check .ensures) ∙ ap checkSays (c .before .before .checked2 .given .1))
 
 returns : tie.Need-returns
-returns c = raster-refused (c .before .before .before .before .before .before .before .args .g) _ _ _ _ _ _ (sym (c .before .before .before .check .ensures) ∙ ap checkSays (c .before .checked .given .1))
+returns c = raster-refused (c .before .before .before .before .before .before .before .args .g) _ _ _ _ _ (sym (c .before .before .before .check .ensures) ∙ ap checkSays (c .before .checked .given .1))
 
 same-length : tie.Need-same-length
 same-length c = search needs

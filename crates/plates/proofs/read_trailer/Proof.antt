@@ -1,5 +1,5 @@
 use Rattle.plates.proofs.Rule.{ordered}
-use Rattle.registers.specs.Table.{given}
+use Rattle.refusals.specs.Table.{given}
 use mathlib.Core.Path.{ap}
 use native.Mathlib.Omega.{arith}
 use borrow.Author.Needs.{needs}

@@ -1,7 +1,7 @@
 use Rattle.sound.proofs.Calls.{play-refused, play-short, play-done}
 use Rattle.sound.proofs.Eight.{eight-most}
 use Rattle.sound.specs.Sixths.{leftAt, rightAt}
-use Rattle.registers.specs.Table.{told}
+use Rattle.refusals.specs.Refusals.{answerSays}
 use native.Mathlib.Omega.{arith}
 use mathlib.Core.Path.{_∙_, ap, sym}
 use borrow.Author.Needs.{needs}
@@ -18,7 +18,7 @@ enum-told : tie.Need-enum-told
 enum-told c = search needs
 
 returns : tie.Need-returns
-returns c = play-short (c .before .before .before .before .before .args .registers) (c .before .before .before .before .before .args .words .now) (c .before .before .before .before .before .args .counter) (c .before .before .before .before .before .args .out .now) (ap told (sym (c .before .enum-told .given .1)) ∙ c .before .before .before .check-sound .ensures) (c .if1 .taken)
+returns c = play-short (c .before .before .before .before .before .args .registers) (c .before .before .before .before .before .args .words .now) (c .before .before .before .before .before .args .counter) (c .before .before .before .before .before .args .out .now) (ap answerSays (sym (c .before .enum-told .given .1)) ∙ c .before .before .before .check-sound .ensures) (c .if1 .taken)
 
 lefts-requires : tie.Need-lefts-requires
 lefts-requires c κs = search needs
@@ -38,13 +38,13 @@ put-words-requires c κs = let g = c .before .before .before .before .before .be
 )
 
 returns-2 : tie.Need-returns-2
-returns-2 c = play-refused (c .before .before .before .before .before .args .registers) (c .before .before .before .before .before .args .words .now) (c .before .before .before .before .before .args .counter) (c .before .before .before .before .before .args .out .now) _ _ (ap told (sym (c .before .why .given .1)) ∙ c .before .before .before .check-sound .ensures)
+returns-2 c = play-refused (c .before .before .before .before .before .args .registers) (c .before .before .before .before .before .args .words .now) (c .before .before .before .before .before .args .counter) (c .before .before .before .before .before .args .out .now) _ (ap answerSays (sym (c .before .why .given .1)) ∙ c .before .before .before .check-sound .ensures)
 
 same-length : tie.Need-same-length
 same-length c = search needs
 
 returns-3 : tie.Need-returns-3
-returns-3 c = play-done (c .before .before .before .before .before .before .before .before .before .before .before .before .before .before .args .registers) (c .before .before .before .before .before .before .before .before .before .before .before .before .before .before .args .words .now) (c .before .before .before .before .before .before .before .before .before .before .before .before .before .before .args .counter) (c .before .before .before .before .before .before .before .before .before .before .before .before .before .before .args .out .now) _ _ _ _ (ap told (sym (c .before .before .before .before .before .before .before .before .before .before .enum-told .given .1)) ∙ c .before .before .before .before .before .before .before .before .before .before .before .before .check-sound .ensures) (c .before .before .before .before .before .before .before .before .before .if1 .left) (c .before .before .before .before .before .before .before .before .lefts .ensures) (c .before .before .before .before .before .before .before .rights .ensures) (c .before .put-words .ensures .0) (c .before .put-words .ensures .1)
+returns-3 c = play-done (c .before .before .before .before .before .before .before .before .before .before .before .before .before .before .args .registers) (c .before .before .before .before .before .before .before .before .before .before .before .before .before .before .args .words .now) (c .before .before .before .before .before .before .before .before .before .before .before .before .before .before .args .counter) (c .before .before .before .before .before .before .before .before .before .before .before .before .before .before .args .out .now) _ _ _ _ (ap answerSays (sym (c .before .before .before .before .before .before .before .before .before .before .enum-told .given .1)) ∙ c .before .before .before .before .before .before .before .before .before .before .before .before .check-sound .ensures) (c .before .before .before .before .before .before .before .before .before .if1 .left) (c .before .before .before .before .before .before .before .before .lefts .ensures) (c .before .before .before .before .before .before .before .rights .ensures) (c .before .put-words .ensures .0) (c .before .put-words .ensures .1)
 
 pub play-spec : {M : Type 1} → statement M
 play-spec =

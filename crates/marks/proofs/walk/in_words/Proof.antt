@@ -4,14 +4,14 @@ use native.Mathlib.Omega.{arith}
 use borrow.Author.Needs.{needs}
 use lib.ListN.{length}
 use Rattle.marks.specs.Count.{total}
-use Rattle.marks.specs.Bright.{wordAt}
+use Rattle.marks.specs.Bright.{wordBrightAt}
 use Rattle.marks.proofs.Totals.{sums-more, parts-total}
 use Rattle.marks.proofs.walk.in_words.Statement.{statement}
 use Rattle.marks.proofs.walk.in_words.Tie as tie
 
 abbrev Inv-loop : tie.InvT-loop
 Inv-loop bytes words fours a₀ b₀ c₀ d₀ k₀ a b c d k =
-    (k ≤ fours) × (k % 4 ≡ 0) × (a + b + c + d ≡ total (wordAt bytes words) k) × (a + b + c + d ≤ 1020 * k)
+    (k ≤ fours) × (k % 4 ≡ 0) × (a + b + c + d ≡ total (wordBrightAt bytes words) k) × (a + b + c + d ≤ 1020 * k)
 
 abbrev μ-loop : tie.MeasureT-loop
 μ-loop bytes words fours a₀ b₀ c₀ d₀ k₀ a b c d k = fours - k

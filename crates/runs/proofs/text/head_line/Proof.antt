@@ -1,5 +1,5 @@
 use Rattle.runs.proofs.Texts.{marks-are, marks-never}
-use Rattle.runs.specs.Text.{headOf}
+use Rattle.runs.specs.Text.{pictureHead}
 use borrow.Author.Needs.{needs}
 use Rattle.runs.proofs.text.head_line.Statement.{statement}
 use Rattle.runs.proofs.text.head_line.Tie as tie
@@ -29,7 +29,7 @@ same-length : tie.Need-same-length
 same-length c = search needs
 
 returns : tie.Need-returns
-unfolding headOf
+unfolding pictureHead
 returns c = rw (← marks-are (c .before .before .before .before .before .before .before .before .before .before .before .before .before .args .g) (c .before .before .before .before .before .before .before .before .before .before .before .before .before .args .video .now) (c .before .before .before .before .before .before .before .before .before .before .before .before .before .args .cursor .now) (c .before .before .before .before .before .before .before .before .before .before .before .before .before .args .s) (c .before .before .before .before .before .before .before .before .before .before .before .before .before .pre .2) _ _ (c .before .before .before .before .before .before .before .before .before .marks .ensures) (c .before .before .before .before .before .before .before .marks2 .given .1)) (c .before .before .put-head .ensures)
 
 returns-2 : tie.Need-returns-2

@@ -1,17 +1,18 @@
-use Rattle.registers.specs.declared.refusal.Answer.the-variants.{Done, Refused}
+use Rattle.refusals.specs.declared.Answer.the-variants.{Done, Refused}
 use Rattle.registers.specs.declared.record.Registers.{Registers}
-use Rattle.registers.specs.declared.refusal.Answer.{Answer}
+use Rattle.refusals.specs.declared.Answer.{Answer}
 use mathlib.Core.Path.{_≡_, sym, _∙_, ap}
-use Rattle.registers.specs.Table.{given, told, judged, andThen}
+use Rattle.refusals.specs.Table.{given, judged, andThen}
+use Rattle.refusals.specs.Refusals.{answerSays}
 use Rattle.registers.specs.Setting.{settingOf}
 use Rattle.registers.specs.Check.{settingTable, checkTold}
-use Rattle.registers.proofs.Tables.{judged-then}
+use Rattle.refusals.proofs.Tables.{judged-then}
 use borrow.Author.Needs.{needs}
 use Rattle.registers.proofs.record.Registers.check.Statement.{statement}
 use Rattle.registers.proofs.record.Registers.check.Tie as tie
 
 -- the same table is told for the setting
-told-check : (g : Registers) (a : Answer) → told a ≡ judged (settingTable g) tt → andThen (told a) (λ _. given (settingOf g)) ≡ checkTold g
+told-check : (g : Registers) (a : Answer) → answerSays a ≡ judged (settingTable g) tt → andThen (answerSays a) (λ _. given (settingOf g)) ≡ checkTold g
 unfolding checkTold
 told-check g a e = ap (λ t. andThen t (λ _. given (settingOf g))) e ∙ sym (judged-then tt (settingOf g) (settingTable g))
 
@@ -28,10 +29,10 @@ enum-known-why : tie.Need-enum-known-why
 enum-known-why c = search needs
 
 returns : tie.Need-returns
-returns c = rw (c .before .before .before .setting .ensures) (told-check (c .before .before .before .before .args .self) Done (sym (ap told (c .enum-told .given .1)) ∙ c .before .before .judge .ensures))
+returns c = rw (c .before .before .before .setting .ensures) (told-check (c .before .before .before .before .args .self) Done (sym (ap answerSays (c .enum-told .given .1)) ∙ c .before .before .judge .ensures))
 
 returns-2 : tie.Need-returns-2
-returns-2 c = told-check (c .before .before .before .before .before .args .self) (Refused (c .before .why .given .0 .0)) (sym (ap told (c .before .why .given .1)) ∙ c .before .before .before .judge .ensures)
+returns-2 c = told-check (c .before .before .before .before .before .args .self) (Refused (c .before .why .given .0 .0)) (sym (ap answerSays (c .before .why .given .1)) ∙ c .before .before .before .judge .ensures)
 
 pub check-spec : {M : Type 1} → statement M
 check-spec =

@@ -1,0 +1,86 @@
+-- How a table answers: the first row whose test holds, and what was asked for exactly where none does.
+use Prim.Native.Nat.{ℕ}
+use mathlib.Core.Path.{_≡_, refl, sym}
+use mathlib.Core.Bool.{Bool, true, false}
+use mathlib.Core.List.{List, [], _∷_, _++_}
+use mathlib.Core.Logic.{inl, inr}
+use native.Mathlib.Omega.{arith}
+use lib.Dec.{eqb}
+use Rattle.buffers.specs.Pick.{pick}
+use Rattle.refusals.specs.Table.{Why, given, refused, Row, judged, andThen, testOf, Passes, First}
+
+-- what was asked for is never a refusal
+pub never : {A : Type 0} {P : Type 0} {a : A} {w : Why} → given a ≡ refused w → P
+never e = let z : _≡_ {A = ℕ} 0 1 = cc in absurd (omega arith)
+
+-- where no test holds, that of the row with a number doesn't, wherever it stands
+pub passed : (n : ℕ) (rows : List Row) → Passes rows → testOf n rows ≡ false
+passed n [] p = refl
+passed n (r ∷ rs) p = go (eqb (r .tells .number) n) (passed n rs (p .1))
+  where
+    go : (t : Bool) → testOf n rs ≡ false → pick t (r .when) (testOf n rs) ≡ false
+    go true e = p .0
+    go false e = e
+
+-- two tables one after the other
+pub passes-both : (rows more : List Row) → Passes rows → Passes more → Passes (rows ++ more)
+passes-both [] more p q = q
+passes-both (r ∷ rs) more p q = (p .0, passes-both rs more (p .1) q)
+
+pub passes-first : (rows more : List Row) → Passes (rows ++ more) → Passes rows
+passes-first [] more p = tt
+passes-first (r ∷ rs) more p = (p .0, passes-first rs more (p .1))
+
+pub passes-second : (rows more : List Row) → Passes (rows ++ more) → Passes more
+passes-second [] more p = p
+passes-second (r ∷ rs) more p = passes-second rs more (p .1)
+
+module _ {A : Type 0} (a : A) where
+  pub passes-given : (rows : List Row) → Passes rows → judged rows a ≡ given a
+  passes-given [] p = refl
+  passes-given (r ∷ rs) p = rw (p .0) (passes-given rs (p .1))
+
+  pub given-passes : (rows : List Row) (b : A) → judged rows a ≡ given b → Passes rows × (a ≡ b)
+  given-passes [] b e = (tt, cc)
+  given-passes (r ∷ rs) b e = go (r .when) refl e (λ q. given-passes rs b q)
+    where
+      go : (t : Bool) → r .when ≡ t → pick t (refused (r .tells)) (judged rs a) ≡ given b
+          → (judged rs a ≡ given b → Passes rs × (a ≡ b)) → Passes (r ∷ rs) × (a ≡ b)
+      go true w q more = never (sym q)
+      go false w q more = ((w, more q .0), more q .1)
+
+  pub refused-first : (rows : List Row) (w : Why) → judged rows a ≡ refused w → First rows w
+  refused-first [] w e = never e
+  refused-first (r ∷ rs) w e = go (r .when) refl e (λ q. refused-first rs w q)
+    where
+      go : (t : Bool) → r .when ≡ t → pick t (refused (r .tells)) (judged rs a) ≡ refused w
+          → (judged rs a ≡ refused w → First rs w) → First (r ∷ rs) w
+      go true h q more = inl (h, cc)
+      go false h q more = inr (h, more q)
+
+  pub first-refused : (rows : List Row) (w : Why) → First rows w → judged rows a ≡ refused w
+  first-refused [] w f = absurd f
+  first-refused (r ∷ rs) w (inl f) = rw (f .0, f .1)
+  first-refused (r ∷ rs) w (inr f) = rw (f .0) (first-refused rs w (f .1))
+
+-- a table judged for one thing, told for another
+pub judged-then : {A B : Type 0} (a : A) (b : B) (rows : List Row) → judged rows b ≡ andThen (judged rows a) (λ _. given b)
+judged-then a b [] = refl
+judged-then a b (r ∷ rs) = go (r .when) (judged-then a b rs)
+  where
+    go : (t : Bool) → judged rs b ≡ andThen (judged rs a) (λ _. given b)
+        → pick t (refused (r .tells)) (judged rs b) ≡ andThen (pick t (refused (r .tells)) (judged rs a)) (λ _. given b)
+    go true e = refl
+    go false e = e
+
+-- one table after another is judged as one with it; the second may speak of what the first gives
+pub and-then-judged : {A B : Type 0} (b : B) (rows : List Row) (more : B → List Row) (a : B → A)
+    → andThen (judged rows b) (λ c. judged (more c) (a c)) ≡ judged (rows ++ more b) (a b)
+and-then-judged b [] more a = refl
+and-then-judged b (r ∷ rs) more a = go (r .when) (and-then-judged b rs more a)
+  where
+    go : (t : Bool) → andThen (judged rs b) (λ c. judged (more c) (a c)) ≡ judged (rs ++ more b) (a b)
+        → andThen (pick t (refused (r .tells)) (judged rs b)) (λ c. judged (more c) (a c))
+        ≡ pick t (refused (r .tells)) (judged (rs ++ more b) (a b))
+    go true e = refl
+    go false e = e

@@ -1,0 +1,95 @@
+-- For each call, any two answers and any two states of the lent memory that its contract permits are the same.
+use Prim.Native.Nat.{ℕ}
+use mathlib.Core.Path.{sym, _∙_}
+use mathlib.Core.List.{List}
+use lib.IntN.{ℤ}
+use denote.Ref.{now}
+use Rattle.buffers.proofs.Coincide.{OneAnswer, OneState}
+use Rattle.vombelishi.proofs.files.vom_read.Kinds as vom-read-kinds
+use Rattle.vombelishi.proofs.files.vom_read.Reads as vom-read-reads
+use Rattle.vombelishi.proofs.files.vom_copy.Kinds as vom-copy-kinds
+use Rattle.vombelishi.proofs.files.vom_copy.Reads as vom-copy-reads
+use Rattle.vombelishi.proofs.files.vom_write.Kinds as vom-write-kinds
+use Rattle.vombelishi.proofs.files.vom_write.Reads as vom-write-reads
+use Rattle.vombelishi.proofs.levels.vom_colour.Kinds as vom-colour-kinds
+use Rattle.vombelishi.proofs.levels.vom_colour.Reads as vom-colour-reads
+use Rattle.vombelishi.proofs.levels.vom_grey.Kinds as vom-grey-kinds
+use Rattle.vombelishi.proofs.levels.vom_grey.Reads as vom-grey-reads
+use Rattle.vombelishi.proofs.levels.vom_pin.Kinds as vom-pin-kinds
+use Rattle.vombelishi.proofs.levels.vom_pin.Reads as vom-pin-reads
+use Rattle.vombelishi.proofs.loads.vom_load.Kinds as vom-load-kinds
+use Rattle.vombelishi.proofs.loads.vom_load.Reads as vom-load-reads
+use Rattle.vombelishi.proofs.loads.vom_load_word.Kinds as vom-load-word-kinds
+use Rattle.vombelishi.proofs.loads.vom_load_word.Reads as vom-load-word-reads
+use Rattle.vombelishi.proofs.pictures.vom_frame.Kinds as vom-frame-kinds
+use Rattle.vombelishi.proofs.pictures.vom_frame.Reads as vom-frame-reads
+use Rattle.vombelishi.proofs.pictures.vom_raster.Kinds as vom-raster-kinds
+use Rattle.vombelishi.proofs.pictures.vom_raster.Reads as vom-raster-reads
+use Rattle.vombelishi.proofs.rasters.vom_raster_words.Kinds as vom-raster-words-kinds
+use Rattle.vombelishi.proofs.rasters.vom_raster_words.Reads as vom-raster-words-reads
+use Rattle.vombelishi.proofs.rasters.vom_marks.Kinds as vom-marks-kinds
+use Rattle.vombelishi.proofs.rasters.vom_marks.Reads as vom-marks-reads
+use Rattle.vombelishi.proofs.settings.vom_check.Kinds as vom-check-kinds
+use Rattle.vombelishi.proofs.settings.vom_check.Reads as vom-check-reads
+use Rattle.vombelishi.proofs.settings.vom_check_sound.Kinds as vom-check-sound-kinds
+use Rattle.vombelishi.proofs.settings.vom_check_sound.Reads as vom-check-sound-reads
+use Rattle.vombelishi.proofs.sounds.vom_sound.Kinds as vom-sound-kinds
+use Rattle.vombelishi.proofs.sounds.vom_sound.Reads as vom-sound-reads
+use Rattle.vombelishi.proofs.sounds.vom_sound_pair.Kinds as vom-sound-pair-kinds
+use Rattle.vombelishi.proofs.sounds.vom_sound_pair.Reads as vom-sound-pair-reads
+use Rattle.vombelishi.proofs.texts.vom_text.Kinds as vom-text-kinds
+use Rattle.vombelishi.proofs.texts.vom_text.Reads as vom-text-reads
+
+pub one-vom-read : OneState 2 vom-read-kinds.ps vom-read-kinds.r (λ κs s. now (s .1 .0)) vom-read-reads.Post
+one-vom-read κs a x y s t p q = (p .0 ∙ sym (q .0), p .1 ∙ sym (q .1))
+
+pub one-vom-copy : OneState 2 vom-copy-kinds.ps vom-copy-kinds.r (λ κs s. now (s .1 .0)) vom-copy-reads.Post
+one-vom-copy κs a x y s t p q = (p .0 ∙ sym (q .0), p .1 ∙ sym (q .1))
+
+pub one-vom-write : OneState {A = List ℕ × ℕ} 6 vom-write-kinds.ps vom-write-kinds.r
+    (λ κs s. (now (s .1 .1 .1 .1 .0), now (s .1 .1 .1 .1 .1 .0))) vom-write-reads.Post
+one-vom-write κs a x y s t p q = (p .0 ∙ sym (q .0), λ i. ((p .1 ∙ sym (q .1)) i, (p .2 ∙ sym (q .2)) i))
+
+pub one-vom-colour : OneState 3 vom-colour-kinds.ps vom-colour-kinds.r (λ κs s. now (s .1 .1 .1 .1 .0)) vom-colour-reads.Post
+one-vom-colour κs a x y s t p q = (p .0 ∙ sym (q .0), p .1 ∙ sym (q .1))
+
+pub one-vom-grey : OneAnswer 0 vom-grey-kinds.ps vom-grey-kinds.r vom-grey-reads.Post
+one-vom-grey κs a x y s t p q = p ∙ sym q
+
+pub one-vom-pin : OneAnswer 0 vom-pin-kinds.ps vom-pin-kinds.r vom-pin-reads.Post
+one-vom-pin κs a x y s t p q = p ∙ sym q
+
+pub one-vom-load : OneState {A = List ℕ × List ℕ} 3 vom-load-kinds.ps vom-load-kinds.r (λ κs s. (now (s .0), now (s .1 .0))) vom-load-reads.Post
+one-vom-load κs a x y s t p q = (p .0 ∙ sym (q .0), λ i. ((p .1 ∙ sym (q .1)) i, (p .2 ∙ sym (q .2)) i))
+
+pub one-vom-load-word : OneState {A = List ℕ × List ℕ} 2 vom-load-word-kinds.ps vom-load-word-kinds.r
+    (λ κs s. (now (s .0), now (s .1 .0))) vom-load-word-reads.Post
+one-vom-load-word κs a x y s t p q = (p .0 ∙ sym (q .0), λ i. ((p .1 ∙ sym (q .1)) i, (p .2 ∙ sym (q .2)) i))
+
+pub one-vom-frame : OneState 5 vom-frame-kinds.ps vom-frame-kinds.r (λ κs s. now (s .1 .1 .1 .1 .0)) vom-frame-reads.Post
+one-vom-frame κs a x y s t p q = (p .0 ∙ sym (q .0), p .1 ∙ sym (q .1))
+
+pub one-vom-raster : OneState 5 vom-raster-kinds.ps vom-raster-kinds.r (λ κs s. now (s .1 .1 .1 .1 .1 .0)) vom-raster-reads.Post
+one-vom-raster κs a x y s t p q = (p .0 ∙ sym (q .0), p .1 ∙ sym (q .1))
+
+pub one-vom-raster-words : OneState 4 vom-raster-words-kinds.ps vom-raster-words-kinds.r (λ κs s. now (s .1 .1 .1 .1 .0)) vom-raster-words-reads.Post
+one-vom-raster-words κs a x y s t p q = (p .0 ∙ sym (q .0), p .1 ∙ sym (q .1))
+
+pub one-vom-marks : OneState 5 vom-marks-kinds.ps vom-marks-kinds.r (λ κs s. now (s .1 .1 .1 .1 .1 .0)) vom-marks-reads.Post
+one-vom-marks κs a x y s t p q = (p .0 ∙ sym (q .0), p .1 ∙ sym (q .1))
+
+pub one-vom-check : OneState 3 vom-check-kinds.ps vom-check-kinds.r (λ κs s. now (s .1 .1 .0)) vom-check-reads.Post
+one-vom-check κs a x y s t p q = (p .0 ∙ sym (q .0), p .1 ∙ sym (q .1))
+
+pub one-vom-check-sound : OneAnswer 2 vom-check-sound-kinds.ps vom-check-sound-kinds.r vom-check-sound-reads.Post
+one-vom-check-sound κs a x y s t p q = p ∙ sym q
+
+pub one-vom-sound : OneState {A = ℕ × List ℤ} 5 vom-sound-kinds.ps vom-sound-kinds.r
+    (λ κs s. (now (s .1 .1 .1 .0), now (s .1 .1 .1 .1 .0))) vom-sound-reads.Post
+one-vom-sound κs a x y s t p q = (p .0 ∙ sym (q .0), λ i. ((p .1 ∙ sym (q .1)) i, (p .2 ∙ sym (q .2)) i))
+
+pub one-vom-sound-pair : OneState 1 vom-sound-pair-kinds.ps vom-sound-pair-kinds.r (λ κs s. now (s .1 .1 .0)) vom-sound-pair-reads.Post
+one-vom-sound-pair κs a x y s t p q = (p .0 ∙ sym (q .0), p .1 ∙ sym (q .1))
+
+pub one-vom-text : OneState {A = List ℕ × ℕ} 3 vom-text-kinds.ps vom-text-kinds.r (λ κs s. (now (s .1 .0), now (s .1 .1 .0))) vom-text-reads.Post
+one-vom-text κs a x y s t p q = (p .0 ∙ sym (q .0), λ i. ((p .1 ∙ sym (q .1)) i, (p .2 ∙ sym (q .2)) i))

@@ -1,0 +1,42 @@
+-- Slices that are no record are refused; else the colour of the record's pixel is in the cell.
+use borrow.Author.Needs.{needs}
+use mathlib.Core.Path.{refl, sym, _∙_, ap}
+use Rattle.refusals.specs.Table.{given}
+use Rattle.colours.specs.Colour.{colourOf}
+use Rattle.vombelishi.specs.Pictures.{colourCall}
+use Rattle.vombelishi.proofs.Answers.{cell-refused, cell-done}
+use Rattle.vombelishi.proofs.Records.{long-enough, told-short, told-by}
+use Rattle.vombelishi.proofs.levels.vom_colour.Statement.{statement}
+use Rattle.vombelishi.proofs.levels.vom_colour.Tie as tie
+
+lacks-requires : tie.Need-lacks-requires
+lacks-requires c κs = search needs
+
+returns : tie.Need-returns
+unfolding colourCall
+returns c =
+    let args = c .before .before .before .before .args in
+    cell-refused (colourCall (args .values .now) (args .written .now) (args .depth) (args .pixel)) (args .colour .now) _ _
+    (sym (told-short (args .values .now) (args .written .now) (λ g. given (colourOf g (args .depth) (args .pixel)))
+    (sym (c .before .lacks .ensures) ∙ c .if1 .taken)))
+    refl
+
+record-of-requires : tie.Need-record-of-requires
+record-of-requires c κs =
+    let args = c .before .before .before .before .args in
+    long-enough (args .values .now) (args .written .now) (sym (c .before .lacks .ensures) ∙ c .if1 .left)
+
+colour-requires : tie.Need-colour-requires
+colour-requires c κs = search needs
+
+returns-2 : tie.Need-returns-2
+unfolding colourCall
+returns-2 c =
+    let args = c .before .before .before .before .before .before .args in
+    cell-done (colourCall (args .values .now) (args .written .now) (args .depth) (args .pixel)) (args .colour .now) _
+    (sym (told-by (args .values .now) (args .written .now) (λ g. given (colourOf g (args .depth) (args .pixel))) _ _
+    (sym (c .before .before .before .lacks .ensures) ∙ c .before .before .if1 .left) (c .before .record-of .ensures) (ap given (c .colour .ensures))))
+
+pub vom-colour-spec : {M : Type 1} → statement M
+vom-colour-spec =
+    tie.close (tie.spec lacks-requires returns record-of-requires colour-requires returns-2)

@@ -1,0 +1,44 @@
+use Rattle.frame.specs.Frame.{frameTold, frameLeaves}
+use Rattle.vombelishi.specs.Pictures.{frameCall, frameCallLeaves}
+use Rattle.vombelishi.proofs.Pictured.{picture-short, picture-by}
+use lib.ListN.{length}
+use Rattle.vombelishi.proofs.Records.{long-enough}
+use mathlib.Core.Path.{sym, _∙_}
+use borrow.Author.Needs.{needs}
+use Rattle.vombelishi.proofs.pictures.vom_frame.Statement.{statement}
+use Rattle.vombelishi.proofs.pictures.vom_frame.Tie as tie
+
+lacks-requires : tie.Need-lacks-requires
+lacks-requires c κs = search needs
+
+returns : tie.Need-returns
+unfolding frameCall frameCallLeaves
+returns c = picture-short (c .before .before .before .before .before .before .before .args .values .now) (c .before .before .before .before .before .before .before .args .written .now) (c .before .before .before .before .before .before .before .args .cells .now) (λ g. frameTold g (c .before .before .before .before .before .before .before .args .video .now) (c .before .before .before .before .before .before .before .args .cursor .now) (length (c .before .before .before .before .before .before .before .args .cells .now))) (λ g. frameLeaves g (c .before .before .before .before .before .before .before .args .video .now) (c .before .before .before .before .before .before .before .args .cursor .now) (c .before .before .before .before .before .before .before .args .cells .now)) (sym (c .before .lacks .ensures) ∙ c .if1 .taken)
+
+record-of-requires : tie.Need-record-of-requires
+record-of-requires c κs = long-enough (c .before .before .before .before .before .before .before .args .values .now) (c .before .before .before .before .before .before .before .args .written .now) (sym (c .before .lacks .ensures) ∙ c .if1 .left)
+
+frame-requires : tie.Need-frame-requires
+frame-requires c κs = search needs
+
+answered-requires : tie.Need-answered-requires
+answered-requires c κs = search needs
+
+same-length : tie.Need-same-length
+same-length c = search needs
+
+returns-2 : tie.Need-returns-2
+unfolding frameCall frameCallLeaves
+returns-2 c = picture-by (c .before .before .before .before .before .before .before .before .before .before .before .before .before .args .values .now) (c .before .before .before .before .before .before .before .before .before .before .before .before .before .args .written .now) (c .before .before .before .before .before .before .before .before .before .before .before .before .before .args .cells .now) (λ g. frameTold g (c .before .before .before .before .before .before .before .before .before .before .before .before .before .args .video .now) (c .before .before .before .before .before .before .before .before .before .before .before .before .before .args .cursor .now) (length (c .before .before .before .before .before .before .before .before .before .before .before .before .before .args .cells .now))) (λ g. frameLeaves g (c .before .before .before .before .before .before .before .before .before .before .before .before .before .args .video .now) (c .before .before .before .before .before .before .before .before .before .before .before .before .before .args .cursor .now) (c .before .before .before .before .before .before .before .before .before .before .before .before .before .args .cells .now)) _ _ _ _ (sym (c .before .before .before .before .before .before .before .lacks .ensures) ∙ c .before .before .before .before .before .before .if1 .left) (c .before .before .before .before .before .record-of .ensures) (c .before .before .before .frame .ensures .0) (c .before .before .before .frame .ensures .1) (c .answered .ensures)
+
+pub vom-frame-spec : {M : Type 1} → statement M
+vom-frame-spec =
+    tie.close
+    (tie.spec
+    lacks-requires
+    returns
+    record-of-requires
+    frame-requires
+    answered-requires
+    same-length
+    returns-2)

@@ -1,0 +1,28 @@
+use Rattle.registers.specs.Check.{checkTold}
+use Rattle.vombelishi.specs.Settings.{settingTold}
+use Rattle.vombelishi.proofs.Records.{long-enough, told-short, told-by}
+use mathlib.Core.Path.{sym, _∙_}
+use borrow.Author.Needs.{needs}
+use Rattle.vombelishi.proofs.settings.judge.Statement.{statement}
+use Rattle.vombelishi.proofs.settings.judge.Tie as tie
+
+lacks-requires : tie.Need-lacks-requires
+lacks-requires c κs = search needs
+
+returns : tie.Need-returns
+unfolding settingTold
+returns c = told-short _ _ checkTold (sym (c .before .lacks .ensures) ∙ c .if1 .taken)
+
+record-of-requires : tie.Need-record-of-requires
+record-of-requires c κs = long-enough (c .before .before .before .before .args .values .now) (c .before .before .before .before .args .written .now) (sym (c .before .lacks .ensures) ∙ c .if1 .left)
+
+check-requires : tie.Need-check-requires
+check-requires c κs = search needs
+
+returns-2 : tie.Need-returns-2
+unfolding settingTold
+returns-2 c = told-by _ _ checkTold _ _ (sym (c .before .before .before .lacks .ensures) ∙ c .before .before .if1 .left) (c .before .record-of .ensures) (c .check .ensures)
+
+pub judge-spec : {M : Type 1} → statement M
+judge-spec =
+    tie.close (tie.spec lacks-requires returns record-of-requires check-requires returns-2)

@@ -1,0 +1,159 @@
+use mathlib.Core.Path.{_∙_}
+use native.Mathlib.Omega.{arith}
+use Rattle.registers.proofs.Words.{video-most, cursor-most}
+use Rattle.vombelishi.specs.Settings.{numbersOf}
+use borrow.Author.Needs.{needs}
+use Rattle.vombelishi.proofs.settings.put_setting.Statement.{statement}
+use Rattle.vombelishi.proofs.settings.put_setting.Tie as tie
+
+wide-requires : tie.Need-wide-requires
+wide-requires c κs = search needs
+
+wide-requires-2 : tie.Need-wide-requires-2
+wide-requires-2 c κs = search needs
+
+wide-requires-3 : tie.Need-wide-requires-3
+wide-requires-3 c κs = search needs
+
+wide-requires-4 : tie.Need-wide-requires-4
+wide-requires-4 c κs = search needs
+
+wide-requires-5 : tie.Need-wide-requires-5
+wide-requires-5 c κs = search needs
+
+wide-requires-6 : tie.Need-wide-requires-6
+wide-requires-6 c κs = search needs
+
+wide-requires-7 : tie.Need-wide-requires-7
+wide-requires-7 c κs = search needs
+
+wide-requires-8 : tie.Need-wide-requires-8
+wide-requires-8 c κs = search needs
+
+wide-requires-9 : tie.Need-wide-requires-9
+wide-requires-9 c κs = search needs
+
+wide-requires-10 : tie.Need-wide-requires-10
+wide-requires-10 c κs = search needs
+
+wide-requires-11 : tie.Need-wide-requires-11
+wide-requires-11 c κs = search needs
+
+wide-requires-12 : tie.Need-wide-requires-12
+wide-requires-12 c κs = search needs
+
+wide-requires-13 : tie.Need-wide-requires-13
+wide-requires-13 c κs = search needs
+
+wide-requires-14 : tie.Need-wide-requires-14
+wide-requires-14 c κs = search needs
+
+wide-requires-15 : tie.Need-wide-requires-15
+wide-requires-15 c κs = search needs
+
+cast-wide : tie.Need-cast-wide
+cast-wide c = search needs
+
+wide-requires-16 : tie.Need-wide-requires-16
+wide-requires-16 c κs = search needs
+
+display-on-requires : tie.Need-display-on-requires
+display-on-requires c κs = search needs
+
+flag-requires : tie.Need-flag-requires
+flag-requires c κs = search needs
+
+border-on-requires : tie.Need-border-on-requires
+border-on-requires c κs = search needs
+
+flag-requires-2 : tie.Need-flag-requires-2
+flag-requires-2 c κs = search needs
+
+flag-requires-3 : tie.Need-flag-requires-3
+flag-requires-3 c κs = search needs
+
+video-words-requires : tie.Need-video-words-requires
+video-words-requires c κs = search needs
+
+cast-t27 : tie.Need-cast-t27
+cast-t27 c = let s = c .before .before .before .before .before .before .before .before .before .before .before .before .before .before .before .before .before .before .before .before .before .before .before .before in omega (arith, c .video-words .ensures, video-most (s .args .s) (s .pre .1))
+
+cursor-words-requires : tie.Need-cursor-words-requires
+cursor-words-requires c κs = search needs
+
+cast-t29 : tie.Need-cast-t29
+cast-t29 c = let s = c .before .before .before .before .before .before .before .before .before .before .before .before .before .before .before .before .before .before .before .before .before .before .before .before .before in omega (arith, c .cursor-words .ensures, cursor-most (s .args .s) (s .pre .1))
+
+slice-aggregate-put-words : tie.Need-slice-aggregate-put-words
+slice-aggregate-put-words c = search needs
+
+put-words-requires : tie.Need-put-words-requires
+put-words-requires c κs = c .before .before .before .before .before .before .before .before .before .before .before .before .before .before .before .before .before .before .before .before .before .before .before .before .before .before .before .pre .0
+
+same-length : tie.Need-same-length
+same-length c = search needs
+
+returns : tie.Need-returns
+unfolding numbersOf
+returns c =
+    c .before .before .put-words .ensures
+    ∙ simp (
+      c .before .before .before .before .before .cursor-words .ensures,
+      c .before .before .before .before .before .before .video-words .ensures,
+      c .before .before .before .before .before .before .before .flag3 .ensures,
+      c .before .before .before .before .before .before .before .before .flag2 .ensures,
+      c .before .before .before .before .before .before .before .before .before .border-on .ensures,
+      c .before .before .before .before .before .before .before .before .before .before .flag .ensures,
+      c .before .before .before .before .before .before .before .before .before .before .before .display-on .ensures,
+      c .before .before .before .before .before .before .before .before .before .before .before .before .wide16 .ensures,
+      c .before .before .before .before .before .before .before .before .before .before .before .before .before .before .wide15 .ensures,
+      c .before .before .before .before .before .before .before .before .before .before .before .before .before .before .before .wide14 .ensures,
+      c .before .before .before .before .before .before .before .before .before .before .before .before .before .before .before .before .wide13 .ensures,
+      c .before .before .before .before .before .before .before .before .before .before .before .before .before .before .before .before .before .wide12 .ensures,
+      c .before .before .before .before .before .before .before .before .before .before .before .before .before .before .before .before .before .before .wide11 .ensures,
+      c .before .before .before .before .before .before .before .before .before .before .before .before .before .before .before .before .before .before .before .wide10 .ensures,
+      c .before .before .before .before .before .before .before .before .before .before .before .before .before .before .before .before .before .before .before .before .wide9 .ensures,
+      c .before .before .before .before .before .before .before .before .before .before .before .before .before .before .before .before .before .before .before .before .before .wide8 .ensures,
+      c .before .before .before .before .before .before .before .before .before .before .before .before .before .before .before .before .before .before .before .before .before .before .wide7 .ensures,
+      c .before .before .before .before .before .before .before .before .before .before .before .before .before .before .before .before .before .before .before .before .before .before .before .wide6 .ensures,
+      c .before .before .before .before .before .before .before .before .before .before .before .before .before .before .before .before .before .before .before .before .before .before .before .before .wide5 .ensures,
+      c .before .before .before .before .before .before .before .before .before .before .before .before .before .before .before .before .before .before .before .before .before .before .before .before .before .wide4 .ensures,
+      c .before .before .before .before .before .before .before .before .before .before .before .before .before .before .before .before .before .before .before .before .before .before .before .before .before .before .wide3 .ensures,
+      c .before .before .before .before .before .before .before .before .before .before .before .before .before .before .before .before .before .before .before .before .before .before .before .before .before .before .before .wide2 .ensures,
+      c .before .before .before .before .before .before .before .before .before .before .before .before .before .before .before .before .before .before .before .before .before .before .before .before .before .before .before .before .wide .ensures,
+    )
+
+pub put-setting-spec : {M : Type 1} → statement M
+put-setting-spec =
+    tie.close
+    (tie.spec
+    wide-requires
+    wide-requires-2
+    wide-requires-3
+    wide-requires-4
+    wide-requires-5
+    wide-requires-6
+    wide-requires-7
+    wide-requires-8
+    wide-requires-9
+    wide-requires-10
+    wide-requires-11
+    wide-requires-12
+    wide-requires-13
+    wide-requires-14
+    wide-requires-15
+    cast-wide
+    wide-requires-16
+    display-on-requires
+    flag-requires
+    border-on-requires
+    flag-requires-2
+    flag-requires-3
+    video-words-requires
+    cast-t27
+    cursor-words-requires
+    cast-t29
+    slice-aggregate-put-words
+    put-words-requires
+    same-length
+    returns)

@@ -1,0 +1,113 @@
+// Records judged: for pictures, with the numbers of an accepted setting, and for sound.
+use crate::code::SHORT;
+use crate::code::answered;
+use crate::code::refused;
+use crate::put::put_words;
+use crate::record::lacks;
+use crate::record::record_of;
+use registers::check::Checked;
+use refusals::Answer;
+use refusals::Refusal;
+use registers::setting::Setting;
+ghost use mathlib.Core.Path.{_≡_};
+ghost use Prim.Native.Nat.{_≤_};
+ghost use mathlib.Core.Bool.{cond};
+ghost use lib.ListN.{length};
+ghost use lib.Seq.{sets};
+ghost use Rattle.registers.proofs.Accepted.{Accepted};
+ghost use Rattle.registers.specs.Check.{checkSays};
+ghost use Rattle.refusals.specs.Refusals.{answerSays};
+ghost use Rattle.vombelishi.specs.Code.{answerCode, storedBy};
+ghost use Rattle.vombelishi.specs.Settings.{numbersOf, settingTold, checkCall, checkSoundCall};
+
+// How many numbers a setting has.
+const NUMBERS: usize = 21;
+
+fn wide(number: u16) -> u32
+    ensures { λ r. ⌜ r ≡ number ⌝ }
+{
+    number as u32
+}
+
+fn flag(on: bool) -> u32
+    ensures { λ r. ⌜ r ≡ cond on 1 0 ⌝ }
+{
+    on as u32
+}
+
+fn put_setting(s: Setting, out: &mut [u32])
+    requires { ⌜ (21 ≤ length (now out)) × Accepted s ⌝ }
+    ensures { λ _. ⌜ now (out .exit) ≡ sets (now (out .entry)) 0 (numbersOf s) ⌝ }
+{
+    let numbers = [
+        wide(s.n.0),
+        wide(s.hs.0),
+        wide(s.bs.0),
+        wide(s.ds.0),
+        wide(s.de.0),
+        wide(s.be.0),
+        wide(s.cx.0),
+        wide(s.v.0),
+        wide(s.vs.0),
+        wide(s.vbs.0),
+        wide(s.vds.0),
+        wide(s.vde.0),
+        wide(s.vbe.0),
+        wide(s.vcs.0),
+        wide(s.vce.0),
+        wide(s.depth as u16),
+        flag(s.display_on()),
+        flag(s.border_on()),
+        flag(s.cursor),
+        s.video_words() as u32,
+        s.cursor_words() as u32,
+    ];
+    put_words(out, &numbers);
+}
+
+fn judge(values: &[u32], written: &[u8]) -> Checked
+    ensures { λ r. ⌜ checkSays r ≡ settingTold (now (values .entry)) (now (written .entry)) ⌝ }
+{
+    if lacks(values, written) {
+        return Checked::Refused(Refusal::Short);
+    }
+    record_of(values, written).check()
+}
+
+fn judge_sound(values: &[u32], written: &[u8]) -> Answer
+    ensures { λ r. ⌜ answerSays r ≡ checkSoundCall (now (values .entry)) (now (written .entry)) ⌝ }
+{
+    if lacks(values, written) {
+        return Answer::Refused(Refusal::Short);
+    }
+    record_of(values, written).check_sound()
+}
+
+// The 21 numbers of the setting; 13 for slices shorter than 64, then 3 to 9, then 13 for `setting`.
+#[no_mangle]
+pub extern "C" fn vom_check(values: &[u32], written: &[u8], setting: &mut [u32]) -> u64
+    ensures { λ r. ⌜
+        (r ≡ answerCode (checkCall (now (values .entry)) (now (written .entry)) (length (now (setting .entry)))))
+        × (now (setting .exit)
+        ≡ storedBy (checkCall (now (values .entry)) (now (written .entry)) (length (now (setting .entry)))) (now (setting .entry)))
+        ⌝ }
+{
+    match judge(values, written) {
+        Checked::Refused(why) => refused(why),
+        Checked::Accepted(s) => {
+            if setting.len() < NUMBERS {
+                return SHORT;
+            }
+            put_setting(s, setting);
+            0
+        }
+    }
+}
+
+// Whether the record can be played; 13 for slices shorter than 64, then 3, 10.
+#[no_mangle]
+pub extern "C" fn vom_check_sound(values: &[u32], written: &[u8]) -> u64
+    ensures { λ r. ⌜ r ≡ answerCode (checkSoundCall (now (values .entry)) (now (written .entry))) ⌝ }
+{
+    answered(judge_sound(values, written))
+}
