@@ -15,7 +15,8 @@ use Rattle.registers.specs.Load.{leading, applied, loadTable, loadTold}
 use Rattle.registers.proofs.Reserved.{unreserved}
 use Rattle.refusals.proofs.Tables.{never, given-passes}
 use Rattle.vombelishi.specs.Record.{isSet, recordOf, recordTold}
-use Rattle.vombelishi.specs.Load.{valueStored, flagStored, valuesStored, flagsStored, loadCall, loadValues, loadWritten, wordCall, wordValues, wordWritten}
+use Rattle.vombelishi.specs.Load.{valueStored, flagStored, valuesStored, flagsStored, loadCall, loadValues, loadWritten, wordCall}
+use Rattle.vombelishi.specs.Load.{wordValues, wordWritten}
 
 -- A list l, in which the words from i on are still to be stored, for a list as it came.
 module _ (words : List ℕ) (i : ℕ) where

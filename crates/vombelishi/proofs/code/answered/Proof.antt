@@ -1,3 +1,4 @@
+-- An answer is told as one number: the refusal's number by the function below, 0 where there is none.
 use mathlib.Core.Path.{_∙_, sym, ap}
 use Rattle.refusals.specs.Refusals.{answerSays}
 use Rattle.refusals.specs.declared.Answer.{Answer}

@@ -1,3 +1,4 @@
+-- The nine numbers of a plate's sections are stored as they stand in the array, each widened.
 use Rattle.vombelishi.specs.Files.{nineOf}
 use borrow.Author.Needs.{needs}
 use Rattle.vombelishi.proofs.files.put_sections.Statement.{statement}

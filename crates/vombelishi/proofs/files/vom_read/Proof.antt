@@ -1,3 +1,4 @@
+-- The answer and the slice go by what reading tells: a refusal, a slice too short, or the nine numbers stored.
 use Rattle.plates.specs.Read.{readSays, readTold}
 use Rattle.vombelishi.specs.Files.{nineOf, readCall}
 use Rattle.vombelishi.proofs.Answers.{listed-refused, listed-short, listed-done}
@@ -20,21 +21,32 @@ enum-known-p c = search needs
 
 returns : tie.Need-returns
 unfolding readCall
-returns c = listed-short (readTold (c .before .before .before .before .before .before .before .args .file .now)) nineOf 9 (c .before .before .before .before .before .before .before .args .places .now) _ (sym (c .before .before .before .before .read .ensures) ∙ ap readSays (c .before .before .p .given .1)) (c .if1 .taken)
+returns c =
+    let args = c .before .before .before .before .before .before .before .args in
+    listed-short (readTold (args .file .now)) nineOf 9 (args .places .now) _
+    (sym (c .before .before .before .before .read .ensures) ∙ ap readSays (c .before .before .p .given .1)) (c .if1 .taken)
 
 put-sections-requires : tie.Need-put-sections-requires
 put-sections-requires c κs = search needs
 
 returns-2 : tie.Need-returns-2
 unfolding readCall
-returns-2 c = listed-refused (readTold (c .before .before .before .before .before .before .before .args .file .now)) nineOf 9 (c .before .before .before .before .before .before .before .args .places .now) _ _ (sym (c .before .before .before .before .read .ensures) ∙ ap readSays (c .before .before .why .given .1)) (c .refused .ensures)
+returns-2 c =
+    let args = c .before .before .before .before .before .before .before .args in
+    listed-refused (readTold (args .file .now)) nineOf 9 (args .places .now) _ _
+    (sym (c .before .before .before .before .read .ensures) ∙ ap readSays (c .before .before .why .given .1)) (c .refused .ensures)
 
 same-length : tie.Need-same-length
 same-length c = search needs
 
 returns-3 : tie.Need-returns-3
 unfolding readCall
-returns-3 c = listed-done (readTold (c .before .before .before .before .before .before .before .before .before .before .before .args .file .now)) nineOf 9 (c .before .before .before .before .before .before .before .before .before .before .before .args .places .now) _ _ (sym (c .before .before .before .before .before .before .before .before .read .ensures) ∙ ap readSays (c .before .before .before .before .before .before .p .given .1)) (c .before .before .before .before .if1 .left) (c .before .before .put-sections .ensures)
+returns-3 c =
+    let p = c .before .before .before .before .before .before .p in
+    let read = c .before .before .before .before .before .before .before .before .read in
+    let args = c .before .before .before .before .before .before .before .before .before .before .before .args in
+    listed-done (readTold (args .file .now)) nineOf 9 (args .places .now) _ _ (sym (read .ensures) ∙ ap readSays (p .given .1))
+    (c .before .before .before .before .if1 .left) (c .before .before .put-sections .ensures)
 
 pub vom-read-spec : {M : Type 1} → statement M
 vom-read-spec =

@@ -1,3 +1,4 @@
+-- At each turn what is still to be stored, from the slice as it is, leaves the same as storing all from the slice as it came.
 use borrow.Author.Needs.{needs}
 use Prim.Native.Nat.{_≤_, _-_}
 use mathlib.Core.Path.{_≡_, sym, _∙_}

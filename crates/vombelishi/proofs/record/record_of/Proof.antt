@@ -1,3 +1,4 @@
+-- At each turn both arrays hold what the slices give up to the turn's place; after the 64th they are the record.
 use borrow.Author.Needs.{needs}
 use Prim.Native.Nat.{_≤_, _-_}
 use mathlib.Core.Bool.{false}
@@ -47,7 +48,8 @@ loop-less c = search needs
 loop-again : tie.Need-loop-again Inv-loop μ-loop
 loop-again c =
     let l = c .before .before .before .loop in
-    (search needs, l .inv .1, l .inv .2, paint-more _ (search needs) (search needs) refl (l .inv .3), paint-more _ (search needs) (search needs) refl (l .inv .4))
+    (search needs, l .inv .1, l .inv .2, paint-more _ (search needs) (search needs) refl (l .inv .3), paint-more _ (search needs) (search needs) refl
+    (l .inv .4))
 
 returns : tie.Need-returns Inv-loop μ-loop
 returns c =

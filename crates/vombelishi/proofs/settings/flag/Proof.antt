@@ -1,3 +1,4 @@
+-- A truth value as a number is 1 or 0, by both cases.
 use Rattle.vombelishi.proofs.Records.{flag-byte}
 use borrow.Author.Needs.{needs}
 use Rattle.vombelishi.proofs.settings.flag.Statement.{statement}

@@ -1,3 +1,4 @@
+-- The array has the 21 numbers of the setting in order, and the numbers of words of an accepted one fit 32 bits.
 use mathlib.Core.Path.{_∙_}
 use native.Mathlib.Omega.{arith}
 use Rattle.registers.proofs.Words.{video-most, cursor-most}
@@ -76,19 +77,29 @@ video-words-requires : tie.Need-video-words-requires
 video-words-requires c κs = search needs
 
 cast-t27 : tie.Need-cast-t27
-cast-t27 c = let s = c .before .before .before .before .before .before .before .before .before .before .before .before .before .before .before .before .before .before .before .before .before .before .before .before in omega (arith, c .video-words .ensures, video-most (s .args .s) (s .pre .1))
+cast-t27 c =
+    let past1 = c .before .before .before .before .before .before .before .before .before .before in
+    let past2 = past1 .before .before .before .before .before .before .before .before .before .before in
+    let s = past2 .before .before .before .before in omega (arith, c .video-words .ensures, video-most (s .args .s) (s .pre .1))
 
 cursor-words-requires : tie.Need-cursor-words-requires
 cursor-words-requires c κs = search needs
 
 cast-t29 : tie.Need-cast-t29
-cast-t29 c = let s = c .before .before .before .before .before .before .before .before .before .before .before .before .before .before .before .before .before .before .before .before .before .before .before .before .before in omega (arith, c .cursor-words .ensures, cursor-most (s .args .s) (s .pre .1))
+cast-t29 c =
+    let past1 = c .before .before .before .before .before .before .before .before .before .before in
+    let past2 = past1 .before .before .before .before .before .before .before .before .before .before in
+    let s = past2 .before .before .before .before .before in omega (arith, c .cursor-words .ensures, cursor-most (s .args .s) (s .pre .1))
 
 slice-aggregate-put-words : tie.Need-slice-aggregate-put-words
 slice-aggregate-put-words c = search needs
 
 put-words-requires : tie.Need-put-words-requires
-put-words-requires c κs = c .before .before .before .before .before .before .before .before .before .before .before .before .before .before .before .before .before .before .before .before .before .before .before .before .before .before .before .pre .0
+put-words-requires c κs =
+    let past1 = c .before .before .before .before .before .before .before .before .before .before in
+    let past2 = past1 .before .before .before .before .before .before .before .before .before .before in
+    let pre = past2 .before .before .before .before .before .before .before .pre in
+    pre .0
 
 same-length : tie.Need-same-length
 same-length c = search needs
@@ -96,6 +107,10 @@ same-length c = search needs
 returns : tie.Need-returns
 unfolding numbersOf
 returns c =
+    let past1 = c .before .before .before .before .before .before .before .before .before .before in
+    let past2 = past1 .before .before .before .before .before .before .before .before .before .before in
+    let past1 = past1 in
+    let past2 = past1 .before .before .before .before .before .before .before .before .before .before in
     c .before .before .put-words .ensures
     ∙ simp (
       c .before .before .before .before .before .cursor-words .ensures,
@@ -103,24 +118,24 @@ returns c =
       c .before .before .before .before .before .before .before .flag3 .ensures,
       c .before .before .before .before .before .before .before .before .flag2 .ensures,
       c .before .before .before .before .before .before .before .before .before .border-on .ensures,
-      c .before .before .before .before .before .before .before .before .before .before .flag .ensures,
-      c .before .before .before .before .before .before .before .before .before .before .before .display-on .ensures,
-      c .before .before .before .before .before .before .before .before .before .before .before .before .wide16 .ensures,
-      c .before .before .before .before .before .before .before .before .before .before .before .before .before .before .wide15 .ensures,
-      c .before .before .before .before .before .before .before .before .before .before .before .before .before .before .before .wide14 .ensures,
-      c .before .before .before .before .before .before .before .before .before .before .before .before .before .before .before .before .wide13 .ensures,
-      c .before .before .before .before .before .before .before .before .before .before .before .before .before .before .before .before .before .wide12 .ensures,
-      c .before .before .before .before .before .before .before .before .before .before .before .before .before .before .before .before .before .before .wide11 .ensures,
-      c .before .before .before .before .before .before .before .before .before .before .before .before .before .before .before .before .before .before .before .wide10 .ensures,
-      c .before .before .before .before .before .before .before .before .before .before .before .before .before .before .before .before .before .before .before .before .wide9 .ensures,
-      c .before .before .before .before .before .before .before .before .before .before .before .before .before .before .before .before .before .before .before .before .before .wide8 .ensures,
-      c .before .before .before .before .before .before .before .before .before .before .before .before .before .before .before .before .before .before .before .before .before .before .wide7 .ensures,
-      c .before .before .before .before .before .before .before .before .before .before .before .before .before .before .before .before .before .before .before .before .before .before .before .wide6 .ensures,
-      c .before .before .before .before .before .before .before .before .before .before .before .before .before .before .before .before .before .before .before .before .before .before .before .before .wide5 .ensures,
-      c .before .before .before .before .before .before .before .before .before .before .before .before .before .before .before .before .before .before .before .before .before .before .before .before .before .wide4 .ensures,
-      c .before .before .before .before .before .before .before .before .before .before .before .before .before .before .before .before .before .before .before .before .before .before .before .before .before .before .wide3 .ensures,
-      c .before .before .before .before .before .before .before .before .before .before .before .before .before .before .before .before .before .before .before .before .before .before .before .before .before .before .before .wide2 .ensures,
-      c .before .before .before .before .before .before .before .before .before .before .before .before .before .before .before .before .before .before .before .before .before .before .before .before .before .before .before .before .wide .ensures,
+      past1 .flag .ensures,
+      past1 .before .display-on .ensures,
+      past1 .before .before .wide16 .ensures,
+      past1 .before .before .before .before .wide15 .ensures,
+      past1 .before .before .before .before .before .wide14 .ensures,
+      past1 .before .before .before .before .before .before .wide13 .ensures,
+      past1 .before .before .before .before .before .before .before .wide12 .ensures,
+      past1 .before .before .before .before .before .before .before .before .wide11 .ensures,
+      past1 .before .before .before .before .before .before .before .before .before .wide10 .ensures,
+      past2 .wide9 .ensures,
+      past2 .before .wide8 .ensures,
+      past2 .before .before .wide7 .ensures,
+      past2 .before .before .before .wide6 .ensures,
+      past2 .before .before .before .before .wide5 .ensures,
+      past2 .before .before .before .before .before .wide4 .ensures,
+      past2 .before .before .before .before .before .before .wide3 .ensures,
+      past2 .before .before .before .before .before .before .before .wide2 .ensures,
+      past2 .before .before .before .before .before .before .before .before .wide .ensures,
     )
 
 pub put-setting-spec : {M : Type 1} → statement M

@@ -1,3 +1,4 @@
+-- The answer and the slice go by what the check tells: a refusal, a slice too short, or the 21 numbers stored.
 use Rattle.vombelishi.proofs.Pictured.{setting-accepted}
 use Rattle.registers.specs.Check.{checkSays}
 use Rattle.vombelishi.specs.Settings.{numbersOf, settingTold, checkCall}
@@ -21,21 +22,35 @@ enum-known-s c = search needs
 
 returns : tie.Need-returns
 unfolding checkCall
-returns c = listed-short (settingTold (c .before .before .before .before .before .before .before .before .args .values .now) (c .before .before .before .before .before .before .before .before .args .written .now)) numbersOf 21 (c .before .before .before .before .before .before .before .before .args .setting .now) _ (sym (c .before .before .before .before .judge .ensures) ∙ ap checkSays (c .before .before .s .given .1)) (c .if1 .taken)
+returns c =
+    let args = c .before .before .before .before .before .before .before .before .args in
+    listed-short (settingTold (args .values .now) (args .written .now)) numbersOf 21 (args .setting .now) _
+    (sym (c .before .before .before .before .judge .ensures) ∙ ap checkSays (c .before .before .s .given .1)) (c .if1 .taken)
 
 put-setting-requires : tie.Need-put-setting-requires
-put-setting-requires c κs = (search needs, setting-accepted (c .before .before .before .before .before .before .before .before .before .args .values .now) (c .before .before .before .before .before .before .before .before .before .args .written .now) _ (sym (c .before .before .before .before .before .judge .ensures) ∙ ap checkSays (c .before .before .before .s .given .1)))
+put-setting-requires c κs =
+    let judge = c .before .before .before .before .before .judge in
+    let args = c .before .before .before .before .before .before .before .before .before .args in
+    (search needs, setting-accepted (args .values .now) (args .written .now) _ (sym (judge .ensures) ∙ ap checkSays (c .before .before .before .s .given .1)))
 
 returns-2 : tie.Need-returns-2
 unfolding checkCall
-returns-2 c = listed-refused (settingTold (c .before .before .before .before .before .before .before .before .args .values .now) (c .before .before .before .before .before .before .before .before .args .written .now)) numbersOf 21 (c .before .before .before .before .before .before .before .before .args .setting .now) _ _ (sym (c .before .before .before .before .judge .ensures) ∙ ap checkSays (c .before .before .why .given .1)) (c .refused .ensures)
+returns-2 c =
+    let args = c .before .before .before .before .before .before .before .before .args in
+    listed-refused (settingTold (args .values .now) (args .written .now)) numbersOf 21 (args .setting .now) _ _
+    (sym (c .before .before .before .before .judge .ensures) ∙ ap checkSays (c .before .before .why .given .1)) (c .refused .ensures)
 
 same-length : tie.Need-same-length
 same-length c = search needs
 
 returns-3 : tie.Need-returns-3
 unfolding checkCall
-returns-3 c = listed-done (settingTold (c .before .before .before .before .before .before .before .before .before .before .before .before .args .values .now) (c .before .before .before .before .before .before .before .before .before .before .before .before .args .written .now)) numbersOf 21 (c .before .before .before .before .before .before .before .before .before .before .before .before .args .setting .now) _ _ (sym (c .before .before .before .before .before .before .before .before .judge .ensures) ∙ ap checkSays (c .before .before .before .before .before .before .s .given .1)) (c .before .before .before .before .if1 .left) (c .before .before .put-setting .ensures)
+returns-3 c =
+    let s = c .before .before .before .before .before .before .s in
+    let judge = c .before .before .before .before .before .before .before .before .judge in
+    let args = c .before .before .before .before .before .before .before .before .before .before .before .before .args in
+    listed-done (settingTold (args .values .now) (args .written .now)) numbersOf 21 (args .setting .now) _ _
+    (sym (judge .ensures) ∙ ap checkSays (s .given .1)) (c .before .before .before .before .if1 .left) (c .before .before .put-setting .ensures)
 
 pub vom-check-spec : {M : Type 1} → statement M
 vom-check-spec =

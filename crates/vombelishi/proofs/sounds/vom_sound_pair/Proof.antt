@@ -1,3 +1,4 @@
+-- The answer and the slice go by what the pair tells: a refusal, a slice too short, or both values stored.
 use Rattle.vombelishi.proofs.Sounded.{both, both-stored}
 use Rattle.sound.specs.Pair.{pairSays, pairTold}
 use Rattle.vombelishi.specs.Sounds.{pairCall}
@@ -21,7 +22,10 @@ enum-known-sides c = search needs
 
 returns : tie.Need-returns
 unfolding pairCall
-returns c = listed-short (pairTold (c .before .before .before .before .before .args .byte) (c .before .before .before .before .before .args .stereo)) both 2 (c .before .before .before .before .before .args .pair .now) _ (sym (c .before .before .before .before .pair .ensures) ∙ ap pairSays (c .before .before .sides .given .1)) (c .if1 .taken)
+returns c =
+    let args = c .before .before .before .before .before .args in
+    listed-short (pairTold (args .byte) (args .stereo)) both 2 (args .pair .now) _
+    (sym (c .before .before .before .before .pair .ensures) ∙ ap pairSays (c .before .before .sides .given .1)) (c .if1 .taken)
 
 slice-set-from-left : tie.Need-slice-set-from-left
 slice-set-from-left c = search needs
@@ -31,15 +35,22 @@ slice-set-from-right c = search needs
 
 returns-2 : tie.Need-returns-2
 unfolding pairCall
-returns-2 c = listed-refused (pairTold (c .before .before .before .before .before .args .byte) (c .before .before .before .before .before .args .stereo)) both 2 (c .before .before .before .before .before .args .pair .now) _ _ (sym (c .before .before .before .before .pair .ensures) ∙ ap pairSays (c .before .before .why .given .1)) (c .refused .ensures)
+returns-2 c =
+    let args = c .before .before .before .before .before .args in
+    listed-refused (pairTold (args .byte) (args .stereo)) both 2 (args .pair .now) _ _
+    (sym (c .before .before .before .before .pair .ensures) ∙ ap pairSays (c .before .before .why .given .1)) (c .refused .ensures)
 
 same-length : tie.Need-same-length
 same-length c = search needs
 
 returns-3 : tie.Need-returns-3
 unfolding pairCall
-returns-3 c = listed-done (pairTold (c .before .before .before .before .before .before .before .args .byte) (c .before .before .before .before .before .before .before .args .stereo)) both 2 (c .before .before .before .before .before .before .before .args .pair .now) _ _ (sym (c .before .before .before .before .before .before .pair .ensures) ∙ ap pairSays (c .before .before .before .before .sides .given .1)) (c .before .before .if1 .left)
-    (both-stored (c .before .before .before .before .before .before .before .args .pair .now) _ (record { sfits = c .struct-told2 .given .0 .1 }) (record { sfits = c .struct-told2 .given .1 .0 .1 }))
+returns-3 c =
+    let pair = c .before .before .before .before .before .before .pair in
+    let args = c .before .before .before .before .before .before .before .args in
+    listed-done (pairTold (args .byte) (args .stereo)) both 2 (args .pair .now) _ _
+    (sym (pair .ensures) ∙ ap pairSays (c .before .before .before .before .sides .given .1)) (c .before .before .if1 .left)
+    (both-stored (args .pair .now) _ (record { sfits = c .struct-told2 .given .0 .1 }) (record { sfits = c .struct-told2 .given .1 .0 .1 }))
 
 pub vom-sound-pair-spec : {M : Type 1} → statement M
 vom-sound-pair-spec =
