@@ -11,6 +11,7 @@ class Function(NamedTuple):
     public: bool  # `pub`, as it says of itself
     exported: bool  # to C
     name: str
+    names: list  # the parameters' names, in order
     parameters: list  # the types, in order; of `self` as it is written
     returns: str
     clauses: list  # kind and text, in order
@@ -59,7 +60,8 @@ def functions(text):
     for found in re.finditer(r"(#\[no_mangle\]\s*)?(\bpub )?(?:extern \"C\" )?\bfn (\w+)\s*\(", text):
         end = closed(text, found.end() - 1)
         owner = next((name for start, stop, name in owners if start < found.start() < stop), "")
-        parameters = [re.sub(r"^\w+: ", "", part) for part in listed(text[found.end():end - 1])]
+        given = listed(text[found.end():end - 1])
+        names, parameters = [part.split(":")[0] for part in given], [re.sub(r"^\w+: ", "", part) for part in given]
         returns = re.compile(r"\s*->\s*([^{]*?)\s*(?=\{|\b(?:ghost|requires|ensures)\b)").match(text, end)
         end = returns.end() if returns else end
         clauses = []
@@ -67,7 +69,8 @@ def functions(text):
             end = closed(text, clause.end() - 1)
             clauses.append((clause.group(1), line(text[clause.end():end - 1])))
         header = line(text[found.start(3):end])
-        yield Function(owner, bool(found.group(2)), bool(found.group(1)), found.group(3), parameters, returns.group(1) if returns else "", clauses, header)
+        answer = returns.group(1) if returns else ""
+        yield Function(owner, bool(found.group(2)), bool(found.group(1)), found.group(3), names, parameters, answer, clauses, header)
 
 
 def numbered(pairs):

@@ -2,7 +2,7 @@
 //! A register's slot is its address divided by four.
 
 use crate::address::{address_of, is_reserved};
-use crate::refusal::{refusal, Refusal, RESERVED_ADDRESS};
+use crate::refusal::{refusal, Refusal, RESERVED};
 
 #[derive(Clone, Debug, PartialEq, Eq)]
 pub struct Record {
@@ -46,7 +46,7 @@ fn slot(address: u32) -> usize {
 /// One word alone: 2, detail 0.
 pub fn load_word(record: &Record, word: u32) -> Result<Record, Refusal> {
     if is_reserved(address_of(word)) {
-        return Err(refusal(RESERVED_ADDRESS));
+        return Err(refusal(RESERVED));
     }
     Ok(record.clone().with_word(word))
 }
