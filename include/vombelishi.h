@@ -86,7 +86,7 @@ uint64_t vom_raster(const uint32_t *values, size_t values_len, const uint8_t *wr
 uint64_t vom_raster_words(const uint32_t *values, size_t values_len, const uint8_t *written, size_t written_len,
                           const uint32_t *video, size_t video_len, uint16_t y, uint64_t *place, size_t place_len);
 
-/* Counts the display cells (code 5) of the frame whose grey is at or above the threshold. Refusals: 13 (record),
+/* Counts the display cells (code 5) of the frame whose grey reaches the threshold. Refusals: 13 (record),
  * 3 to 9, 11. Writes one number to `count`. */
 uint64_t vom_marks(const uint32_t *values, size_t values_len, const uint8_t *written, size_t written_len,
                    const uint32_t *video, size_t video_len, const uint32_t *cursor, size_t cursor_len,
@@ -97,10 +97,10 @@ uint64_t vom_marks(const uint32_t *values, size_t values_len, const uint8_t *wri
 uint64_t vom_colour(const uint32_t *values, size_t values_len, const uint8_t *written, size_t written_len,
                     uint8_t depth, uint8_t pixel, uint16_t *colour);
 
-/* The grey of a colour, 0 to 255; bits above 11 play no part. */
+/* The grey of a colour, 0 to 255, by its 12 lowest bits. */
 uint8_t vom_grey(uint16_t colour);
 
-/* The sync pin's level, 0 low or 1 high, for a code and the control data. */
+/* The sync pin's level, 0 low or 1 high, where a cell has this code and control this data. */
 uint8_t vom_pin(uint8_t code, uint32_t control);
 
 /* Plays words: four bytes each, low first, and for each byte a left and a right value in signed sixths. `counter` is
@@ -117,7 +117,7 @@ uint64_t vom_sound_pair(uint8_t byte, uint8_t stereo, int16_t *pair, size_t pair
  * registers, video, cursor, sound and trailer start, then the trailer's R, V, C, S. */
 uint64_t vom_read(const uint8_t *file, size_t file_len, uint64_t *places, size_t places_len);
 
-/* Copies out all words before the trailer, in order. Refusals: 14, 13 (`words` shorter than R). Writes R words. */
+/* Copies a plate's words out, but not the trailer's. Refusals: 14, 13 (`words` shorter than R). Writes R words. */
 uint64_t vom_copy(const uint8_t *file, size_t file_len, uint32_t *words, size_t words_len);
 
 /* Writes a plate file of four lists. Refusals: 15 (over 4,194,304 bytes), 13 (`out` shorter than the plate). Writes

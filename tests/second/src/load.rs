@@ -6,7 +6,7 @@ use crate::refusal::{refusal_at, refuse_if, Refusal, RESERVED, TOO_MANY_WORDS};
 
 pub const MOST_WORDS: usize = 1024;
 
-/// The words in order, applied to the record given; the last write counts.
+/// The record after all words; a later word replaces an earlier one.
 pub fn load(record: &Record, words: &[u32]) -> Result<Record, Refusal> {
     refuse_if(words.len() > MOST_WORDS, TOO_MANY_WORDS)?;
     if let Some(index) = words.iter().position(|&w| is_reserved(address_of(w))) {

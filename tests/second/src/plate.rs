@@ -4,7 +4,7 @@ use crate::refusal::{refusal, refuse_if, Refusal, PLATE_FILE, SHORT, TOO_LARGE};
 
 pub const MOST_BYTES: u64 = 4_194_304;
 
-/// The trailer: distances in words from its start back to each section's start.
+/// The trailer: how many words back each section starts.
 #[derive(Clone, Copy, Debug, PartialEq, Eq)]
 pub struct Trailer {
     pub r: u32,
@@ -41,7 +41,7 @@ pub fn read(file: &[u8]) -> Result<Trailer, Refusal> {
     Ok(t)
 }
 
-/// Copying out all words before the trailer: 14, 13.
+/// Every word but the trailer's: 14, 13.
 pub fn copy(file: &[u8], lent: usize) -> Result<Vec<u32>, Refusal> {
     let t = read(file)?;
     refuse_if(lent < t.r as usize, SHORT)?;

@@ -1,4 +1,4 @@
-//! The video words of one raster: a stretch of the caller's own list. Refusals: setting, 11, 12.
+//! The video words of one raster: a part of the caller's list. Refusals: setting, 11, 12.
 
 use crate::record::Record;
 use crate::refusal::{refuse_if, Refusal, RASTER};

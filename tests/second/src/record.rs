@@ -1,4 +1,4 @@
-//! The register record: each register's data and whether it was written.
+//! The register record: data, and what was written.
 //! A register's slot is its address divided by four.
 
 use crate::address::{address_of, is_reserved};
@@ -43,7 +43,7 @@ fn slot(address: u32) -> usize {
     (address / 4) as usize
 }
 
-/// One word alone: 2, detail 0.
+/// A single word: 2 with no detail.
 pub fn load_word(record: &Record, word: u32) -> Result<Record, Refusal> {
     if is_reserved(address_of(word)) {
         return Err(refusal(RESERVED));

@@ -124,7 +124,7 @@ impl Setting {
         (self.de - self.ds) * (self.vde - self.vds) * self.depth / 32
     }
 
-    /// Cursor words that a frame of this setting needs, with the border on or off alike.
+    /// Cursor words that a frame of this setting needs; the border has no say.
     pub fn cursor_words(&self) -> u32 {
         if !self.cursor_on {
             return 0;

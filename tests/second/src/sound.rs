@@ -1,4 +1,4 @@
-//! Sound: each byte writes left then right, in signed sixths.
+//! Sound: a left and a right value for each byte, in signed sixths.
 
 use crate::address::stereo;
 use crate::record::Record;

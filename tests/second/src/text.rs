@@ -1,4 +1,4 @@
-//! The run printer's text of a plate. Refusals in order: 15, 14, 1 to 9, 11.
+//! The run printer's text of a plate. Refusals in order: 15, 14, 1, 2, the setting, 11.
 
 use crate::cell::code;
 use crate::frame::frame;
