@@ -6,8 +6,8 @@
  * are used. A pointer without a length (`count`, `colour`, `counter`, `size`) is that of one number, and may not be
  * NULL. What a call writes may not overlap anything else that is handed to that call.
  *
- * Answers. Every call that answers uint64_t answers 0 for success, else number * 2^32 + detail, with the paper's
- * refusal numbers 1 to 15: VOM_NUMBER and VOM_DETAIL take them apart. A refused call writes nothing.
+ * Answers. Every call that answers uint64_t answers 0 for success, else number * 2^32 + detail of a row
+ * of the table below: VOM_NUMBER and VOM_DETAIL take them apart. A refused call writes nothing.
  *
  * A record is two slices of VOM_REGISTERS elements: `values`, each register's data at its address / 4 (of which the
  * low 24 bits count), and `written`, a byte that is not 0 where that register was written. A fresh one is all zero.
@@ -34,13 +34,30 @@ extern "C" {
 #define VOM_NUMBER(answer) ((uint32_t)((answer) >> 32))
 #define VOM_DETAIL(answer) ((uint32_t)(answer))
 
+/* The table of refusals. The detail is 0 where none is named, and in the calls that say so. */
+#define VOM_REFUSED_TOO_MANY_WORDS 1 /* more than 1,024 register words */
+#define VOM_REFUSED_RESERVED 2 /* a reserved address; detail: the index of the first such word */
+#define VOM_REFUSED_UNWRITTEN 3 /* a needed register is unwritten; detail: the lowest address */
+#define VOM_REFUSED_TEST_MODE 4 /* control bit 14 or 15 is set (test mode) */
+#define VOM_REFUSED_INTERLACE 5 /* interlace is set */
+#define VOM_REFUSED_HORIZONTAL 6 /* not HS <= BS <= DS < DE <= BE <= N */
+#define VOM_REFUSED_VERTICAL 7 /* the vertical rule is broken */
+#define VOM_REFUSED_WIDTH 8 /* (DE - DS) * depth is no multiple of 32 */
+#define VOM_REFUSED_CURSOR 9 /* the cursor is on, and its sub-position is not 0 or VCE > V */
+#define VOM_REFUSED_SOUND 10 /* a stereo value is 0, or the sound frequency is below 3; detail: the lowest address */
+#define VOM_REFUSED_WORD_COUNT 11 /* the count of video or cursor words is wrong */
+#define VOM_REFUSED_RASTER 12 /* the raster number is V or more */
+#define VOM_REFUSED_SHORT 13 /* a lent buffer is too short */
+#define VOM_REFUSED_PLATE_FILE 14 /* the file's length or trailer is wrong */
+#define VOM_REFUSED_TOO_LARGE 15 /* a plate to be written is over 4,194,304 bytes, or the printer's input over 65,536 */
+
 /* Applies register words to a record, in order. Refusals: 13 (record), 1 (more than 1,024 words), 2 (a reserved
  * address; detail: the index of the first). Writes, for each word, its data to `values` and 1 to `written`, both at
  * its address / 4; every other element stays as it was. */
 uint64_t vom_load(uint32_t *values, size_t values_len, uint8_t *written, size_t written_len,
                   const uint32_t *words, size_t words_len);
 
-/* Applies one word. Refusals: 13 (record), 2 with detail 0. Writes as vom_load does. */
+/* Applies one word. Refusals: 13 (record), 2 (detail 0). Writes as vom_load does. */
 uint64_t vom_load_word(uint32_t *values, size_t values_len, uint8_t *written, size_t written_len, uint32_t word);
 
 /* Judges a record for pictures. Refusals: 13 (record), 3 (detail: the lowest address) to 9, 13 (`setting` shorter than
@@ -69,7 +86,7 @@ uint64_t vom_raster(const uint32_t *values, size_t values_len, const uint8_t *wr
 uint64_t vom_raster_words(const uint32_t *values, size_t values_len, const uint8_t *written, size_t written_len,
                           const uint32_t *video, size_t video_len, uint16_t y, uint64_t *place, size_t place_len);
 
-/* Counts the display cells (code 5) of the frame whose grey is at or above the threshold. Refusals: 13 (record),
+/* Counts the display cells (code 5) of the frame whose grey reaches the threshold. Refusals: 13 (record),
  * 3 to 9, 11. Writes one number to `count`. */
 uint64_t vom_marks(const uint32_t *values, size_t values_len, const uint8_t *written, size_t written_len,
                    const uint32_t *video, size_t video_len, const uint32_t *cursor, size_t cursor_len,
@@ -80,10 +97,10 @@ uint64_t vom_marks(const uint32_t *values, size_t values_len, const uint8_t *wri
 uint64_t vom_colour(const uint32_t *values, size_t values_len, const uint8_t *written, size_t written_len,
                     uint8_t depth, uint8_t pixel, uint16_t *colour);
 
-/* The grey of a colour, 0 to 255; bits above 11 play no part. */
+/* The grey of a colour, 0 to 255, by its 12 lowest bits. */
 uint8_t vom_grey(uint16_t colour);
 
-/* The sync pin's level, 0 low or 1 high, for a code and the control data. */
+/* The sync pin's level, 0 low or 1 high, where a cell has this code and control this data. */
 uint8_t vom_pin(uint8_t code, uint32_t control);
 
 /* Plays words: four bytes each, low first, and for each byte a left and a right value in signed sixths. `counter` is
@@ -100,7 +117,7 @@ uint64_t vom_sound_pair(uint8_t byte, uint8_t stereo, int16_t *pair, size_t pair
  * registers, video, cursor, sound and trailer start, then the trailer's R, V, C, S. */
 uint64_t vom_read(const uint8_t *file, size_t file_len, uint64_t *places, size_t places_len);
 
-/* Copies out all words before the trailer, in order. Refusals: 14, 13 (`words` shorter than R). Writes R words. */
+/* Copies a plate's words out, but not the trailer's. Refusals: 14, 13 (`words` shorter than R). Writes R words. */
 uint64_t vom_copy(const uint8_t *file, size_t file_len, uint32_t *words, size_t words_len);
 
 /* Writes a plate file of four lists. Refusals: 15 (over 4,194,304 bytes), 13 (`out` shorter than the plate). Writes

@@ -1,5 +1,6 @@
-"""How the tools read the crates' text: functions of Rattle with their clauses, and declarations of antt. Comments count for nothing."""
-import re, sys
+"""How the tools read the crates' text: functions of Rattle with their clauses, which of them are public, and declarations of antt.
+Comments count for nothing."""
+import os, re, sys
 from typing import NamedTuple
 
 sys.dont_write_bytecode = True
@@ -11,10 +12,22 @@ class Function(NamedTuple):
     public: bool  # `pub`, as it says of itself
     exported: bool  # to C
     name: str
+    names: list  # the parameters' names, in order
     parameters: list  # the types, in order; of `self` as it is written
     returns: str
     clauses: list  # kind and text, in order
     header: str  # from its name up to its body, in one line
+
+
+class Call(NamedTuple):
+    name: str  # as a caller writes it, from the crate on
+    path: str  # of its contract, as antt has it
+    function: Function
+    source: str  # the file that it stands in
+
+
+def read(path):
+    return open(path, encoding="utf-8").read() if os.path.exists(path) else ""
 
 
 def rattle(text):
@@ -59,7 +72,8 @@ def functions(text):
     for found in re.finditer(r"(#\[no_mangle\]\s*)?(\bpub )?(?:extern \"C\" )?\bfn (\w+)\s*\(", text):
         end = closed(text, found.end() - 1)
         owner = next((name for start, stop, name in owners if start < found.start() < stop), "")
-        parameters = [re.sub(r"^\w+: ", "", part) for part in listed(text[found.end():end - 1])]
+        given = listed(text[found.end():end - 1])
+        names, parameters = [part.split(":")[0] for part in given], [re.sub(r"^\w+: ", "", part) for part in given]
         returns = re.compile(r"\s*->\s*([^{]*?)\s*(?=\{|\b(?:ghost|requires|ensures)\b)").match(text, end)
         end = returns.end() if returns else end
         clauses = []
@@ -67,7 +81,39 @@ def functions(text):
             end = closed(text, clause.end() - 1)
             clauses.append((clause.group(1), line(text[clause.end():end - 1])))
         header = line(text[found.start(3):end])
-        yield Function(owner, bool(found.group(2)), bool(found.group(1)), found.group(3), parameters, returns.group(1) if returns else "", clauses, header)
+        answer = returns.group(1) if returns else ""
+        yield Function(owner, bool(found.group(2)), bool(found.group(1)), found.group(3), names, parameters, answer, clauses, header)
+
+
+def sources(crate):
+    """Each source file of a crate by its module path."""
+    found, start = {}, f"crates/{crate}/src"
+    for folder, _, files in os.walk(start):
+        for name in files:
+            path = os.path.join(folder, name)
+            module = os.path.relpath(path, start)[:-3].split(os.sep)
+            found[tuple(module[:-1] if module[-1] in ("lib", "main", "mod") else module)] = path
+    return found
+
+
+def public(crate):
+    """The crate's public calls: `pub`, and in the crate's root, in `pub` modules all the way, or brought out by `pub use`; a `pub`
+    method of a public type, in whatever module it stands; a function exported to C; a program's `main`."""
+    paths = sources(crate)
+    files = {module: rattle(read(path)) for module, path in paths.items()}
+    shown = {(*module, name) for module, text in files.items() for name in re.findall(r"\bpub mod (\w+)", text)}
+    brought = {name for text in files.values() for use in re.findall(r"\bpub use ([^;]*);", text) for name in re.findall(r"\w+|\*", use)}
+    types = {name: module for module, text in files.items() for name in re.findall(r"\b(?:struct|enum) (\w+)", text)}
+
+    def seen(module, name):
+        return all(module[:i + 1] in shown for i in range(len(module))) or brought & {name, "*"}
+
+    for module, text in sorted(files.items()):
+        for f in functions(text):
+            home, named = (types[f.owner], f.owner) if f.owner else (module, f.name)
+            if f.exported or f.public and seen(home, named) or not module and f.name == "main":
+                own = (*home, f.owner, f.name) if f.owner else (*home, f.name)
+                yield Call("::".join((crate, *own)), f"Rattle.{crate}.proofs." + ".".join(own), f, paths[module])
 
 
 def numbered(pairs):

@@ -57,7 +57,7 @@ pub fn read_into(file: &[u8], places: &mut [u64]) -> Result<(), Refusal> {
     answer(unsafe { vom_read(file.as_ptr(), file.len(), places.as_mut_ptr(), places.len()) })
 }
 
-/// Copies out all words before the trailer, in order: the R that [`read`] tells. Refusals: 14, 13.
+/// Copies a plate's words out, but not the trailer's: the R that [`read`] tells. Refusals: 14, 13.
 pub fn copy(file: &[u8], words: &mut [u32]) -> Result<(), Refusal> {
     // SAFETY: see `calls`.
     answer(unsafe { vom_copy(file.as_ptr(), file.len(), words.as_mut_ptr(), words.len()) })

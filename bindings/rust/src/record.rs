@@ -4,10 +4,10 @@ use crate::calls::*;
 use crate::refusal::{answer, Refusal};
 use crate::setting::Setting;
 
-/// Each register's data and whether it was written, at its address / 4.
+/// What is known of each register, at its address / 4: its data, and if anything was written to it.
 ///
-/// A record filled by hand is judged like any other: of a value the low 24 bits count, and what stands at the 18
-/// reserved addresses is never read.
+/// Values may be put here without loading words: of each the low 24 bits count, and what stands at the 18 reserved
+/// addresses is never read.
 #[derive(Clone, Debug, PartialEq, Eq)]
 pub struct Record {
     /// Each register's data.
@@ -127,7 +127,7 @@ impl Record {
         })
     }
 
-    /// Counts the display cells (code 5) of the frame whose grey is at or above the threshold. Refusals: 3 to 9, 11.
+    /// Counts the display cells (code 5) of the frame whose grey reaches the threshold. Refusals: 3 to 9, 11.
     pub fn marks(&self, video: &[u32], cursor: &[u32], threshold: u8) -> Result<u64, Refusal> {
         let mut count = 0;
         // SAFETY: see `calls`.

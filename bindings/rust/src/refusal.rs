@@ -6,36 +6,36 @@ use std::fmt;
 /// `refused 3 224: a needed register is unwritten, address E0H`.
 #[derive(Clone, Copy, Debug, PartialEq, Eq)]
 pub struct Refusal {
-    /// The row of the table, 1 to 15.
+    /// The row of the table.
     pub number: u32,
     /// 0, but for 2 (the index of the first such word), 3 and 10 (the lowest such address).
     pub detail: u32,
 }
 
-/// The table's rows, from 1 on.
-const RULES: [&str; 15] = [
-    "more than 1,024 register words",
-    "a reserved address",
-    "a needed register is unwritten",
-    "control bit 14 or 15 is set (test mode)",
-    "interlace is set",
-    "not HS <= BS <= DS < DE <= BE <= N",
-    "the vertical rule is broken",
-    "(DE - DS) * depth is no multiple of 32",
-    "the cursor is on, and its sub-position is not 0 or VCE > V",
-    "a stereo value is 0, or the sound frequency is below 3",
-    "the count of video or cursor words is wrong",
-    "the raster number is V or more",
-    "a lent buffer is too short",
-    "the file's length or trailer is wrong",
-    "a plate to be written is over 4,194,304 bytes, or the printer's input over 65,536",
+/// The table's rows: number, and when it is given.
+const RULES: [(u32, &str); 15] = [
+    (1, "more than 1,024 register words"),
+    (2, "a reserved address"),
+    (3, "a needed register is unwritten"),
+    (4, "control bit 14 or 15 is set (test mode)"),
+    (5, "interlace is set"),
+    (6, "not HS <= BS <= DS < DE <= BE <= N"),
+    (7, "the vertical rule is broken"),
+    (8, "(DE - DS) * depth is no multiple of 32"),
+    (9, "the cursor is on, and its sub-position is not 0 or VCE > V"),
+    (10, "a stereo value is 0, or the sound frequency is below 3"),
+    (11, "the count of video or cursor words is wrong"),
+    (12, "the raster number is V or more"),
+    (13, "a lent buffer is too short"),
+    (14, "the file's length or trailer is wrong"),
+    (15, "a plate to be written is over 4,194,304 bytes, or the printer's input over 65,536"),
 ];
 
 impl Refusal {
     /// When the paper's table gives this refusal, in a few words.
     pub fn rule(&self) -> &'static str {
-        let row = (self.number as usize).wrapping_sub(1);
-        RULES.get(row).copied().unwrap_or("not in the table")
+        let row = RULES.iter().find(|(number, _)| *number == self.number);
+        row.map_or("not in the table", |(_, rule)| rule)
     }
 }
 

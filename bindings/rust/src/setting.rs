@@ -40,7 +40,7 @@ pub struct Setting {
     pub display_on: bool,
     /// Whether VBE > VBS.
     pub border_on: bool,
-    /// Whether VCSR and VCER are written, and VCE > VCS.
+    /// Whether the cursor's two vertical registers were written and VCE > VCS.
     pub cursor_on: bool,
     /// The video words that a frame needs.
     pub video_words: u32,

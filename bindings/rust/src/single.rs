@@ -3,13 +3,13 @@
 use crate::calls::*;
 use crate::refusal::{answer, Refusal};
 
-/// The grey of a colour, 0 to 255; bits above 11 play no part.
+/// The grey of a colour, 0 to 255, by its 12 lowest bits.
 pub fn grey(colour: u16) -> u8 {
     // SAFETY: no memory is handed over.
     unsafe { vom_grey(colour) }
 }
 
-/// The sync pin's level, 0 low or 1 high, for a code and the control data.
+/// The sync pin's level, 0 low or 1 high, where a cell has this code and control this data.
 pub fn pin(code: u8, control: u32) -> u8 {
     // SAFETY: no memory is handed over.
     unsafe { vom_pin(code, control) }

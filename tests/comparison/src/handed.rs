@@ -7,7 +7,7 @@ use crate::lent::{Lent, Pattern};
 use crate::random::Random;
 use crate::show;
 use second::record::Record;
-use second::refusal::{refusal, Refusal, BUFFER_SHORT};
+use second::refusal::{refusal, Refusal, SHORT};
 
 /// A slice's name, a kind of length or of content, and whether this slice is of that kind.
 pub type Shape = (&'static str, &'static str, bool);
@@ -143,7 +143,7 @@ impl Given {
     pub fn record(&self) -> Result<Record, Refusal> {
         let (values, written) = (self.values.given(), self.written.given());
         if values.len() < 64 || written.len() < 64 {
-            return Err(refusal(BUFFER_SHORT));
+            return Err(refusal(SHORT));
         }
         let mut record = Record::fresh();
         record.values.copy_from_slice(&values[..64]);

@@ -6,7 +6,7 @@ use crate::make_plate::{picture_file, right_file, section_counts, spoil_file};
 use crate::make_record::SMALL;
 use crate::random::Random;
 use second::plate::{self, MOST_BYTES};
-use second::refusal::{refuse_if, BUFFER_SHORT};
+use second::refusal::{refuse_if, SHORT};
 use second::text::text;
 use vombelishi::calls::*;
 
@@ -38,7 +38,7 @@ pub fn raw_long_write_round(bench: &mut Bench, random: &mut Random) {
 fn raw_read(bench: &mut Bench, random: &mut Random, file: &[u8]) {
     let mut file = Slice::list(random, "file", file, None);
     let mut places = Slice::answer(random, "places", 9);
-    let room = refuse_if(places.len() < 9, BUFFER_SHORT);
+    let room = refuse_if(places.len() < 9, SHORT);
     let expected = plate::read(file.given()).and_then(|trailer| room.map(|()| trailer.nine_numbers()));
     if let Ok(right) = &expected {
         places.should_hold(right);
@@ -93,7 +93,7 @@ fn raw_text(bench: &mut Bench, random: &mut Random, file: &[u8]) {
     let mut out = Slice::answer(random, "text", lines.len());
     let before = random.next();
     let mut size = Slice::one(random, "size", before);
-    let expected = refuse_if(out.len() < lines.len(), BUFFER_SHORT);
+    let expected = refuse_if(out.len() < lines.len(), SHORT);
     if expected.is_ok() {
         out.should_hold(lines.as_bytes());
         size.should_hold(&[lines.len() as u64]);

@@ -5,7 +5,7 @@ use crate::handed::{judge, Given, Slice};
 use crate::make_record::small_or_wide;
 use crate::make_scene::{scene, Scene};
 use crate::random::Random;
-use second::refusal::{refuse_if, BUFFER_SHORT};
+use second::refusal::{refuse_if, SHORT};
 use second::setting::{self, Setting};
 use second::{frame, marks, raster, raster_words};
 use vombelishi::calls::*;
@@ -89,7 +89,7 @@ fn raw_raster(bench: &mut Bench, random: &mut Random, scene: &Scene, y: u16) {
 fn raw_raster_words(bench: &mut Bench, random: &mut Random, scene: &Scene, y: u16) {
     let Handover { mut given, mut video, .. } = Handover::new(random, scene);
     let mut place = Slice::answer(random, "place", 2);
-    let room = refuse_if(place.len() < 2, BUFFER_SHORT);
+    let room = refuse_if(place.len() < 2, SHORT);
     let expected = given.record().and_then(|r| raster_words::raster_words(&r, video.given(), y));
     let expected = expected.and_then(|range| room.map(|()| [range.start as u64, range.len() as u64]));
     if let Ok(right) = &expected {

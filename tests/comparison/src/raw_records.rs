@@ -9,7 +9,7 @@ use crate::random::Random;
 use crate::registers::list;
 use second::address::address_of;
 use second::record::{load_word, Record};
-use second::refusal::{refusal, refuse_if, Refusal, BUFFER_SHORT, SOUND_RULE};
+use second::refusal::{refusal, refuse_if, Refusal, SHORT, SOUND};
 use second::{colour, grey, load, pin, setting, sound, sound_judge};
 use vombelishi::calls::*;
 
@@ -84,7 +84,7 @@ fn raw_load_word(bench: &mut Bench, random: &mut Random, record: &Record, word: 
 fn raw_check(bench: &mut Bench, random: &mut Random, record: &Record) {
     let mut given = Given::new(random, record);
     let mut numbers = Slice::answer(random, "setting", 21);
-    let room = refuse_if(numbers.len() < 21, BUFFER_SHORT);
+    let room = refuse_if(numbers.len() < 21, SHORT);
     let expected =
         given.record().and_then(|record| setting::check(&record)).and_then(|s| room.map(|()| s.numbers()));
     if let Ok(right) = &expected {
@@ -154,9 +154,9 @@ fn raw_sound(bench: &mut Bench, random: &mut Random, record: &Record) {
 fn raw_pair(bench: &mut Bench, random: &mut Random) {
     let (byte, stereo) = (random.between(0, 255) as u8, random.between(0, 255) as u8);
     let mut pair = Slice::answer(random, "pair", 2);
-    let room = refuse_if(pair.len() < 2, BUFFER_SHORT);
+    let room = refuse_if(pair.len() < 2, SHORT);
     let expected = match stereo % 8 {
-        0 => Err(refusal(SOUND_RULE)),
+        0 => Err(refusal(SOUND)),
         value => room.map(|()| sound::pair(byte, value)),
     };
     if let Ok(right) = &expected {

@@ -6,7 +6,7 @@ use crate::make_plate::picture_file;
 use crate::make_record::{small_or_wide, FULL, MIDDLING, TALL, WIDE};
 use crate::random::Random;
 use crate::show;
-use second::refusal::{refuse_if, Refusal, BUFFER_SHORT};
+use second::refusal::{refuse_if, Refusal, SHORT};
 use second::text::{picture, text};
 use vombelishi::plate as library;
 
@@ -35,7 +35,7 @@ fn lent_for(random: &mut Random, needed: usize) -> usize {
 fn compare_text(bench: &mut Bench, random: &mut Random, file: &[u8]) {
     let lines = text(file);
     let length = lent_for(random, lines.len());
-    let expected = refuse_if(length < lines.len(), BUFFER_SHORT).map(|()| lines.as_bytes());
+    let expected = refuse_if(length < lines.len(), SHORT).map(|()| lines.as_bytes());
     let mut judged = Judged::bytes(random, expected, length, |out| library::text(file, out));
     judged.refused = counted_as(file, expected.err());
     bench.see("text of 1,025 lines", lines.lines().count() == 1025);

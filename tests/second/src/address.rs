@@ -1,4 +1,4 @@
-//! The register map: each address as a byte, two zero bits below.
+//! The register map, by address.
 
 pub const PALETTE: u32 = 0x00; // entries 0-15 at 00H-3CH
 pub const BORDER: u32 = 0x40;
@@ -24,7 +24,7 @@ pub const VCER: u32 = 0xBC;
 pub const SOUND_FREQUENCY: u32 = 0xC0;
 pub const CONTROL: u32 = 0xE0;
 
-/// Bits 31 to 26 of a word, as a byte with two zero bits below.
+/// The address that a word is for, in its six highest bits.
 pub fn address_of(word: u32) -> u32 {
     (word >> 26) * 4
 }

@@ -12,7 +12,7 @@ pub fn border(record: &Record) -> u16 {
     thirteen(record, BORDER)
 }
 
-/// Cursor palette 1, 2 or 3, all 13 bits at any depth.
+/// An entry of the cursor palette, whatever the depth.
 pub fn cursor(record: &Record, pair: u32) -> u16 {
     thirteen(record, cursor_entry(pair))
 }
@@ -26,7 +26,7 @@ pub fn display(record: &Record, depth: u32, pixel: u32) -> u16 {
     }
 }
 
-/// The low nibble picks an entry; pixel bits 7, 6, 5, 4 become colour bits 11, 7, 6, 3.
+/// Eight bits: the low four choose an entry, the high four replace four of its bits.
 fn eight_bits(record: &Record, pixel: u32) -> u16 {
     let entry = thirteen(record, palette_entry(pixel % 16));
     let mut colour = 0;

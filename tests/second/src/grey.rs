@@ -1,6 +1,6 @@
 //! Grey of a colour, a house rule.
 
-/// floor(17 (R + G + B) / 3), unsigned; bits above 11 play no part.
+/// The mean of red, green and blue, times 17, rounded down.
 pub fn grey(colour: u16) -> u8 {
     let red = u32::from(colour) % 16;
     let green = u32::from(colour) / 16 % 16;

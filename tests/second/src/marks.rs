@@ -1,4 +1,4 @@
-//! The mark count: code 5 cells whose grey is at or above a threshold. Refusals: setting, 11.
+//! The mark count: display cells whose grey reaches a threshold. Refusals: setting, 11.
 
 use crate::cell::{code, colour};
 use crate::frame::frame;

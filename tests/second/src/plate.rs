@@ -1,10 +1,10 @@
 //! The plate file: four sections of little-endian words and a trailer that points back.
 
-use crate::refusal::{refusal, refuse_if, Refusal, BUFFER_SHORT, FILE_WRONG, TOO_MANY_BYTES};
+use crate::refusal::{refusal, refuse_if, Refusal, PLATE_FILE, SHORT, TOO_LARGE};
 
 pub const MOST_BYTES: u64 = 4_194_304;
 
-/// The trailer: distances in words from its start back to each section's start.
+/// The trailer: how many words back each section starts.
 #[derive(Clone, Copy, Debug, PartialEq, Eq)]
 pub struct Trailer {
     pub r: u32,
@@ -31,20 +31,20 @@ impl Trailer {
 pub fn read(file: &[u8]) -> Result<Trailer, Refusal> {
     let length = file.len() as u64;
     if !(16..=MOST_BYTES).contains(&length) {
-        return Err(refusal(FILE_WRONG));
+        return Err(refusal(PLATE_FILE));
     }
     let last = words_of(&file[file.len() - 16..]);
     let t = Trailer { r: last[0], v: last[1], c: last[2], s: last[3] };
     let in_order = t.r >= t.v && t.v >= t.c && t.c >= t.s;
     let fits = 4 * u64::from(t.r) + 16 == length;
-    refuse_if(!(in_order && fits), FILE_WRONG)?;
+    refuse_if(!(in_order && fits), PLATE_FILE)?;
     Ok(t)
 }
 
-/// Copying out all words before the trailer: 14, 13.
+/// Every word but the trailer's: 14, 13.
 pub fn copy(file: &[u8], lent: usize) -> Result<Vec<u32>, Refusal> {
     let t = read(file)?;
-    refuse_if(lent < t.r as usize, BUFFER_SHORT)?;
+    refuse_if(lent < t.r as usize, SHORT)?;
     Ok(words_of(&file[..4 * t.r as usize]))
 }
 
@@ -61,8 +61,8 @@ pub fn write(
     let v = c + video.len() as u64;
     let r = v + registers.len() as u64;
     let bytes = 4 * r + 16;
-    refuse_if(bytes > MOST_BYTES, TOO_MANY_BYTES)?;
-    refuse_if((lent as u64) < bytes, BUFFER_SHORT)?;
+    refuse_if(bytes > MOST_BYTES, TOO_LARGE)?;
+    refuse_if((lent as u64) < bytes, SHORT)?;
     let trailer = [r, v, c, s].map(|distance| distance as u32);
     Ok(bytes_of(&[registers, video, cursor, sound, &trailer].concat()))
 }

@@ -2,7 +2,7 @@
 
 use crate::cell::Picture;
 use crate::record::Record;
-use crate::refusal::{refuse_if, Refusal, BUFFER_SHORT, RASTER_NUMBER};
+use crate::refusal::{refuse_if, Refusal, RASTER, SHORT};
 use crate::setting;
 
 /// The cells of raster y, for a lent buffer of `lent` places.
@@ -16,8 +16,8 @@ pub fn raster(
     let s = setting::check(record)?;
     s.judge_words(video, cursor)?;
     let y = u32::from(y);
-    refuse_if(y >= s.v, RASTER_NUMBER)?;
-    refuse_if(lent < s.n as usize, BUFFER_SHORT)?;
+    refuse_if(y >= s.v, RASTER)?;
+    refuse_if(lent < s.n as usize, SHORT)?;
     let picture = Picture { record, setting: &s, video, cursor };
     Ok((0..s.n).map(|x| picture.cell(x, y)).collect())
 }

@@ -1,7 +1,7 @@
-//! The video words of one raster: a stretch of the caller's own list. Refusals: setting, 11, 12.
+//! The video words of one raster: a part of the caller's list. Refusals: setting, 11, 12.
 
 use crate::record::Record;
-use crate::refusal::{refuse_if, Refusal, RASTER_NUMBER};
+use crate::refusal::{refuse_if, Refusal, RASTER};
 use crate::setting;
 use std::ops::Range;
 
@@ -10,7 +10,7 @@ pub fn raster_words(record: &Record, video: &[u32], y: u16) -> Result<Range<usiz
     let s = setting::check(record)?;
     s.judge_video(video)?;
     let y = u32::from(y);
-    refuse_if(y >= s.v, RASTER_NUMBER)?;
+    refuse_if(y >= s.v, RASTER)?;
     let displayed = s.display_on && s.vds <= y && y < s.vde;
     if !displayed {
         return Ok(0..0);

@@ -1,8 +1,8 @@
-//! The register record: each register's data and whether it was written.
+//! The register record: data, and what was written.
 //! A register's slot is its address divided by four.
 
 use crate::address::{address_of, is_reserved};
-use crate::refusal::{refusal, Refusal, RESERVED_ADDRESS};
+use crate::refusal::{refusal, Refusal, RESERVED};
 
 #[derive(Clone, Debug, PartialEq, Eq)]
 pub struct Record {
@@ -43,10 +43,10 @@ fn slot(address: u32) -> usize {
     (address / 4) as usize
 }
 
-/// One word alone: 2, detail 0.
+/// A single word: 2 with no detail.
 pub fn load_word(record: &Record, word: u32) -> Result<Record, Refusal> {
     if is_reserved(address_of(word)) {
-        return Err(refusal(RESERVED_ADDRESS));
+        return Err(refusal(RESERVED));
     }
     Ok(record.clone().with_word(word))
 }

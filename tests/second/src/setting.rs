@@ -89,11 +89,11 @@ pub fn check(record: &Record) -> Result<Setting, Refusal> {
     needed::judge(record, &s)?;
     refuse_if(record.bits(CONTROL, 15, 14) != 0, TEST_MODE)?;
     refuse_if(record.bits(CONTROL, 6, 6) != 0, INTERLACE)?;
-    refuse_if(!s.horizontal_rule(), HORIZONTAL_RULE)?;
-    refuse_if(!s.vertical_rule(), VERTICAL_RULE)?;
-    refuse_if((s.de - s.ds) * s.depth % 32 != 0, WIDTH_NOT_WORDS)?;
+    refuse_if(!s.horizontal_rule(), HORIZONTAL)?;
+    refuse_if(!s.vertical_rule(), VERTICAL)?;
+    refuse_if((s.de - s.ds) * s.depth % 32 != 0, WIDTH)?;
     let sub_position = record.bits(HCSR, 12, 11);
-    refuse_if(s.cursor_on && (sub_position != 0 || s.vce > s.v), CURSOR_RULE)?;
+    refuse_if(s.cursor_on && (sub_position != 0 || s.vce > s.v), CURSOR)?;
     Ok(s)
 }
 
@@ -124,7 +124,7 @@ impl Setting {
         (self.de - self.ds) * (self.vde - self.vds) * self.depth / 32
     }
 
-    /// Cursor words that a frame of this setting needs, with the border on or off alike.
+    /// Cursor words that a frame of this setting needs; the border has no say.
     pub fn cursor_words(&self) -> u32 {
         if !self.cursor_on {
             return 0;

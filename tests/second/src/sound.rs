@@ -1,8 +1,8 @@
-//! Sound: each byte writes left then right, in signed sixths.
+//! Sound: a left and a right value for each byte, in signed sixths.
 
 use crate::address::stereo;
 use crate::record::Record;
-use crate::refusal::{refuse_if, Refusal, BUFFER_SHORT};
+use crate::refusal::{refuse_if, Refusal, SHORT};
 use crate::sound_judge::check_sound;
 
 /// 2^c (p + 16) - 16, negated if bit 0 is set.
@@ -31,7 +31,7 @@ pub fn channel(counter: u32) -> u32 {
 /// The values and the counter afterwards. Refusals: 3, 10, 13.
 pub fn sound(record: &Record, words: &[u32], counter: u32, lent: usize) -> Result<(Vec<i16>, u32), Refusal> {
     check_sound(record)?;
-    refuse_if(lent < 8 * words.len(), BUFFER_SHORT)?;
+    refuse_if(lent < 8 * words.len(), SHORT)?;
     let mut counter = counter;
     let mut values = Vec::new();
     for byte in words.iter().flat_map(|word| word.to_le_bytes()) {

@@ -3,7 +3,7 @@
 use crate::address::{SOUND_FREQUENCY, STEREO_7};
 use crate::needed::lowest_unwritten;
 use crate::record::Record;
-use crate::refusal::{refusal_at, Refusal, SOUND_RULE};
+use crate::refusal::{refusal_at, Refusal, SOUND};
 
 fn is_stereo(address: u32) -> bool {
     (STEREO_7..=0x7C).contains(&address)
@@ -21,7 +21,7 @@ pub fn check_sound(record: &Record) -> Result<(), Refusal> {
     lowest_unwritten(record, |address| is_stereo(address) || address == SOUND_FREQUENCY)?;
     for address in (0x00..=0xFC).step_by(4) {
         if is_wrong(record, address) {
-            return Err(refusal_at(SOUND_RULE, address));
+            return Err(refusal_at(SOUND, address));
         }
     }
     Ok(())

@@ -1,4 +1,4 @@
-//! The run printer's text of a plate. Refusals in order: 15, 14, 1 to 9, 11.
+//! The run printer's text of a plate. Refusals in order: 15, 14, 1, 2, the setting, 11.
 
 use crate::cell::code;
 use crate::frame::frame;
@@ -6,7 +6,7 @@ use crate::load::load;
 use crate::marks::marked;
 use crate::plate::{read, words_of};
 use crate::record::Record;
-use crate::refusal::{refuse_if, Refusal, TOO_MANY_BYTES};
+use crate::refusal::{refuse_if, Refusal, TOO_LARGE};
 use crate::setting;
 
 pub const MOST_INPUT: usize = 65_536;
@@ -21,7 +21,7 @@ pub fn text(input: &[u8]) -> String {
 
 /// The text of a plate that is not refused.
 pub fn picture(input: &[u8]) -> Result<String, Refusal> {
-    refuse_if(input.len() > MOST_INPUT, TOO_MANY_BYTES)?;
+    refuse_if(input.len() > MOST_INPUT, TOO_LARGE)?;
     let starts = read(input)?.starts().map(|byte| byte as usize);
     let section = |i: usize| words_of(&input[starts[i]..starts[i + 1]]);
     let (registers, video, cursor) = (section(0), section(1), section(2));
