@@ -4,7 +4,7 @@ use mathlib.Core.Bool.{false, not}
 use lib.ListN.{getD}
 use Prim.Native.Nat.{_+_, _-_, _/_, _≤_}
 use Rattle.registers.specs.Lowest.{lowest}
-use Rattle.registers.specs.Needed.{unwrittenAmong}
+use Rattle.registers.specs.inner.Groups.{unwrittenAmong}
 use Rattle.registers.proofs.Groups.{group-start, group-here, group-more, group-end}
 use Rattle.registers.proofs.needed.lowest_unwritten.Statement.{statement}
 use Rattle.registers.proofs.needed.lowest_unwritten.Tie as tie

@@ -5,7 +5,7 @@ use lib.ListN.{getD}
 use lib.Dec.{eqb}
 use Prim.Native.Nat.{_-_, _%_, _≤_}
 use Rattle.registers.specs.Lowest.{lowest}
-use Rattle.registers.specs.Stereo.{zeroStereo}
+use Rattle.registers.specs.inner.Groups.{zeroStereo}
 use Rattle.registers.proofs.Groups.{group-start, group-here, group-more, group-end}
 use Rattle.registers.proofs.stereo.lowest_zero_stereo.Statement.{statement}
 use Rattle.registers.proofs.stereo.lowest_zero_stereo.Tie as tie
