@@ -1,8 +1,5 @@
 -- The benches' byte: bit 0 sign (1 negative), bits 4-1 point p, bits 7-5 chord c.
-use Prim.Native.Nat.{ℕ, _+_, _*_, _-_, _/_, _%_, _^_, _<_}
-use mathlib.Core.Path.{_≡_}
-use mathlib.Core.List.{List}
-use lib.ListN.{getD}
+use Prim.Native.Nat.{ℕ, _+_, _*_, _-_, _/_, _%_, _^_}
 use lib.Dec.{eqb}
 use lib.IntN.{ℤ, pos, negℤ, _*ℤ_}
 use Rattle.buffers.specs.Pick.{pick}
@@ -18,7 +15,3 @@ signedOf byte = pick (eqb (byte % 2) 1) (negℤ (pos (amplitudeOf byte))) (pos (
 -- Times sixths.
 unfoldable pub valueOf : ℕ → ℕ → ℤ
 valueOf byte sixths = signedOf byte *ℤ pos sixths
-
--- A table that holds the amplitude of each byte, by its bits 7-1.
-abbrev pub Amplitudes : List ℕ → Type 0
-Amplitudes table = (byte : ℕ) → byte < 256 → getD table (byte / 2) 0 ≡ amplitudeOf byte

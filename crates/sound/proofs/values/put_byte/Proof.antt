@@ -1,4 +1,5 @@
-use Rattle.sound.specs.Values.{channelOf, inTable}
+use Rattle.sound.specs.Values.{channelOf}
+use Rattle.sound.specs.inner.Tables.{inTable}
 use Rattle.sound.proofs.Turns.{byte-put}
 use Rattle.sound.proofs.Signed.{stored}
 use lib.ListN.{length-set}

@@ -1,4 +1,4 @@
-use Rattle.sound.specs.Values.{inTable}
+use Rattle.sound.specs.inner.Tables.{inTable}
 use Rattle.sound.proofs.Turns.{word-put}
 use borrow.Author.Needs.{needs}
 use Rattle.sound.proofs.values.put_word.Statement.{statement}

@@ -5,7 +5,8 @@ use native.Mathlib.Omega.{arith}
 use lib.ListN.{length, drop}
 use lib.Seq.{sets}
 use Rattle.buffers.specs.Words.{bytesOf}
-use Rattle.sound.specs.Values.{counterAfter, valuesOf, inTable}
+use Rattle.sound.specs.Values.{counterAfter, valuesOf}
+use Rattle.sound.specs.inner.Tables.{inTable}
 use Rattle.sound.proofs.Turns.{words-turn, words-done}
 use Rattle.sound.proofs.values.put_words.Statement.{statement}
 use Rattle.sound.proofs.values.put_words.Tie as tie
