@@ -1,6 +1,6 @@
 -- What a sound call tells, by its record and its room: its table is that of its record, then 13.
-use Prim.Native.Nat.{ℕ, _*_, _%_, _≤_}
-use mathlib.Core.Path.{_≡_, refl, sym}
+use Prim.Native.Nat.{ℕ, _*_, _≤_}
+use mathlib.Core.Path.{_≡_, sym}
 use mathlib.Core.List.{List, [], _∷_}
 use borrow.Author.Tests.{ltb-false}
 use lib.Dec.{ltb}
@@ -9,13 +9,8 @@ use Rattle.refusals.proofs.Tables.{passed, passes-first, passes-given, given-pa
 use Rattle.registers.specs.Sound.{soundTable, soundTold}
 use Rattle.registers.specs.declared.record.Registers.{Registers}
 use Rattle.sound.specs.Play.{playTable, playTold}
-use Rattle.sound.specs.Pair.{sidesOf, pairTable, pairTold}
 
 module _ (g : Registers) (words places : ℕ) where
-  pub play-told : playTold g words places ≡ judged (playTable g words places) tt
-  unfolding playTold
-  play-told = refl
-
   abbrev room : List Row
   room = row 13 (ltb places (8 * words)) 0 ∷ []
 
@@ -31,7 +26,3 @@ module _ (g : Registers) (words places : ℕ) where
       let rows = playTable g words places in
       let p = given-passes tt rows tt e .0 in
       (passes-given tt (soundTable g) (passes-first (soundTable g) room p), ltb-false places (8 * words) (passed 13 rows p))
-
-pub pair-told : (byte stereo : ℕ) → pairTold byte stereo ≡ judged (pairTable stereo) (sidesOf byte (stereo % 8))
-unfolding pairTold
-pair-told byte stereo = refl
