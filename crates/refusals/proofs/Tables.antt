@@ -24,7 +24,6 @@ passed n (r ∷ rs) p = go (eqb (r .tells .number) n) (passed n rs (p .1))
 
 -- a table passed, row by row, each by the fact that its test does not hold: `fact ⨾ fact ⨾ .. ⨾ tt`
 infixr 5 _⨾_
-
 pub _⨾_ : {A B : Type 0} → A → B → A × B
 e ⨾ p = (e, p)
 

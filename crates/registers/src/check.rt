@@ -2,10 +2,10 @@
 use crate::lowest::Fault;
 use crate::lowest::lowest;
 use crate::record::Registers;
-use refusals::Answer;
-use refusals::Refusal;
 use crate::setting::Setting;
 use crate::units::Pixels;
+use refusals::Answer;
+use refusals::Refusal;
 ghost use mathlib.Core.Path.{_≡_};
 ghost use Prim.Native.Nat.{_*_, _%_};
 ghost use Rattle.buffers.specs.Pick.{pick};

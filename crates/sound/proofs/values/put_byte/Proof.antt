@@ -1,3 +1,4 @@
+-- A byte's two values, left then right, at the channel of its counter.
 use Rattle.sound.specs.Values.{channelOf}
 use Rattle.sound.specs.inner.Tables.{inTable}
 use Rattle.sound.proofs.Turns.{byte-put}
