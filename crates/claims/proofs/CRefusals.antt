@@ -37,7 +37,7 @@ use Rattle.vombelishi.specs.Texts.{textCall, textLeaves}
 use Rattle.vombelishi.proofs.Pictured.{placeOf}
 use Rattle.sound.proofs.Told.{play-told, pair-told}
 use Rattle.plates.proofs.Told.{read-told, copy-told, write-told}
-use Rattle.claims.specs.Calls.{Every, numbers, ByTable, Kept}
+use Rattle.claims.specs.Calls.{Every, numbers, settingNumbers, ByTable, Kept}
 use Rattle.claims.specs.Rows.{frameRows, rasterRows, marksRows, stretchRows}
 use Rattle.claims.specs.CRows.{ofRecord, roomFor, textRows}
 use Rattle.claims.specs.CViews as c
@@ -55,7 +55,7 @@ module _ (values written : List ℕ) where
   pub vom-load-word-numbers : (word : ℕ) → numbers (ofRecord values written λ g. wordTable word) ≡ 13 ∷ 2 ∷ []
   vom-load-word-numbers word = refl
 
-  pub vom-check-numbers : (places : ℕ) → numbers (ofRecord values written settingTable ++ roomFor 21 places) ≡ 13 ∷ 3 ∷ 4 ∷ 5 ∷ 6 ∷ 7 ∷ 8 ∷ 9 ∷ 13 ∷ []
+  pub vom-check-numbers : (places : ℕ) → numbers (ofRecord values written settingTable ++ roomFor 21 places) ≡ 13 ∷ (settingNumbers ++ (13 ∷ []))
   vom-check-numbers places = refl
 
   pub vom-check-sound-numbers : numbers (ofRecord values written soundTable) ≡ 13 ∷ 3 ∷ 10 ∷ []

@@ -28,7 +28,7 @@ use Rattle.plates.specs.Read.{copied, readTable, copyTable}
 use Rattle.plates.specs.Write.{writeTable}
 use Rattle.sound.proofs.Told.{play-told, pair-told}
 use Rattle.plates.proofs.Told.{read-told, copy-told, write-told}
-use Rattle.claims.specs.Calls.{Every, numbers, ByTable, Kept}
+use Rattle.claims.specs.Calls.{Every, numbers, settingNumbers, ByTable, Kept}
 use Rattle.claims.specs.Views as call
 use Rattle.claims.specs.Views.{LoadRun, FrameRun, RasterRun, MarksRun, StretchRun, PlayRun, PairRun, CopyRun, WriteRun}
 use Rattle.claims.specs.Rows.{frameRows, rasterRows, marksRows, stretchRows}
@@ -42,7 +42,7 @@ load-word-numbers word = refl
 pub load-numbers : (words : List ℕ) → numbers (loadTable words) ≡ 1 ∷ 2 ∷ []
 load-numbers words = refl
 
-pub check-numbers : (g : Registers) → numbers (settingTable g) ≡ 3 ∷ 4 ∷ 5 ∷ 6 ∷ 7 ∷ 8 ∷ 9 ∷ []
+pub check-numbers : (g : Registers) → numbers (settingTable g) ≡ settingNumbers
 check-numbers g = refl
 
 pub frame-numbers : (g : Registers) (video cursor : List ℕ) (room : ℕ) → numbers (frameRows g video cursor room) ≡ 3 ∷ 4 ∷ 5 ∷ 6 ∷ 7 ∷ 8 ∷ 9 ∷ 11 ∷ 13 ∷ []
