@@ -54,7 +54,7 @@ of-slots-requires c κs = search needs
 
 returns : tie.Need-returns Inv-loop μ-loop
 returns c =
-    let s = c .before .before .before in
+    let s = c .before .before .before .before .before in
     let l = c .before .before .loop in
     let e : l .k ≡ 64 = omega arith in
     c .of-slots .ensures
