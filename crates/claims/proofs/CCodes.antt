@@ -52,7 +52,7 @@ bare-fits [] e = tt
 bare-fits (r ∷ rs) e =
     let p = and-split (ltb 0 (r .tells .number) && eqb (r .tells .detail) 0) (bare rs) e in
     let q = and-split (ltb 0 (r .tells .number)) (eqb (r .tells .detail) 0) (p .0) in
-    (ltb-true _ _ (q .0), λ h. omega (arith, eqb-true _ _ (q .1)), λ h. bare-fits rs (p .1))
+    (ltb-true _ _ (q .0), λ h. omega (arith, eqb-true (r .tells .detail) 0 (q .1)), λ h. bare-fits rs (p .1))
 
 pub plain-rows : {rows : List Row} → bare rows ≡ true → Fits rows
 plain-rows {rows} e = record { fits = bare-fits rows e }
