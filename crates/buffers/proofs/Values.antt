@@ -34,4 +34,6 @@ painted-values l n rule h =
     let p = paints-of {d = 0} {l = l} {a = 0} {f = rule} h refl in
     let t : length (take n (painted l 0 n rule)) ≡ n = length-take-le n _ (rw length-painted h) in
     ext-getD 0 _ _ (t ∙ sym (length-values rule 0 n))
-    (λ i j. getD-take n _ i 0 (omega (arith, t)) ∙ (p .on i (omega arith) (omega (arith, t)) ∙ sym (getD-values rule 0 n i (omega (arith, t)) ∙ ap rule (zero-add i))))
+    (λ i j.
+    getD-take n _ i 0 (omega (arith, t))
+    ∙ (p .on i (omega arith) (omega (arith, t)) ∙ sym (getD-values rule 0 n i (omega (arith, t)) ∙ ap rule (zero-add i))))

@@ -3,3 +3,4 @@ pub mod Painted
 pub mod Words
 pub mod Put
 pub mod Values
+pub mod Bits

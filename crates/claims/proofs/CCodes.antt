@@ -2,14 +2,15 @@
 -- to hold, so that the one is read above 2^32 and the other below; and a refusal leaves what was lent.
 use Prim.Native.Nat.{ℕ, _+_, _*_, _^_, _<_}
 use mathlib.Core.Path.{_≡_, refl, sym, _∙_, ap}
-use mathlib.Core.Bool.{Bool, true, false}
+use mathlib.Core.Bool.{Bool, true, false, _&&_}
 use mathlib.Core.List.{List, [], _∷_, _++_}
 use native.Mathlib.Omega.{arith}
 use lib.Arith.{digits-div, digits-mod}
-use lib.Dec.{ltb}
+use lib.Dec.{ltb, eqb}
 use lib.ListN.{length}
-use borrow.Author.Tests.{ltb-true, ltb-false, ne-eqb}
+use borrow.Author.Tests.{ltb-true, ltb-false, eqb-true, ne-eqb}
 use Rattle.buffers.specs.Pick.{pick}
+use Rattle.buffers.proofs.Tests.{and-split}
 use Rattle.refusals.specs.Table.{Why, why, Told, given, refused, Row, row, judged, andThen, unlessRefused}
 use Rattle.registers.specs.Load.{leading, loadTable}
 use Rattle.registers.specs.Check.{unwritten, settingTable}
@@ -40,6 +41,21 @@ detailed h l f = record { fits = (h, l, λ e. f e .fits) }
 
 pub plain : {n : ℕ} {b : Bool} {rs : List Row} → 0 < n → Fits rs → Fits (row n b 0 ∷ rs)
 plain h f = detailed h (λ e. omega arith) (λ e. f)
+
+-- rows with detail 0 alone, which is seen by computing
+abbrev bare : List Row → Bool
+bare [] = true
+bare (r ∷ rs) = ltb 0 (r .tells .number) && eqb (r .tells .detail) 0 && bare rs
+
+bare-fits : (rows : List Row) → bare rows ≡ true → Fitting rows
+bare-fits [] e = tt
+bare-fits (r ∷ rs) e =
+    let p = and-split (ltb 0 (r .tells .number) && eqb (r .tells .detail) 0) (bare rs) e in
+    let q = and-split (ltb 0 (r .tells .number)) (eqb (r .tells .detail) 0) (p .0) in
+    (ltb-true _ _ (q .0), λ h. omega (arith, eqb-true (r .tells .detail) 0 (q .1)), λ h. bare-fits rs (p .1))
+
+pub plain-rows : {rows : List Row} → bare rows ≡ true → Fits rows
+plain-rows {rows} e = record { fits = bare-fits rows e }
 
 fitting-after : (rs more : List Row) → Fitting rs → Fitting more → Fitting (rs ++ more)
 fitting-after [] more f g = g
@@ -130,8 +146,7 @@ low-slot n e = omega (arith, ltb-true n 64 e)
 
 pub setting-fits : (g : Registers) → Fits (settingTable g)
 setting-fits g =
-    detailed (omega arith) (low-slot (unwritten g))
-    (λ e. plain (omega arith) (plain (omega arith) (plain (omega arith) (plain (omega arith) (plain (omega arith) (plain (omega arith) no-rows))))))
+    detailed (omega arith) (low-slot (unwritten g)) (λ e. plain-rows refl)
 
 pub sound-fits : (g : Registers) → Fits (soundTable g)
 sound-fits g =

@@ -8,22 +8,23 @@ use lib.ListN.{length}
 use lib.Seq.{sets}
 use Rattle.buffers.specs.Painted.{painted}
 use Rattle.refusals.specs.Table.{Told, given, Row, judged, unlessRefused}
-use Rattle.registers.specs.Record.{wordTold}
+use Rattle.registers.specs.Record.{wordTable, wordTold}
 use Rattle.registers.specs.Load.{loadTable, loadTold}
 use Rattle.registers.specs.Setting.{settingOf}
 use Rattle.registers.specs.Check.{settingTable, checkTold}
 use Rattle.registers.specs.Sound.{soundTable, soundTold}
 use Rattle.registers.specs.declared.record.Registers.{Registers}
+use Rattle.registers.proofs.Told.{load-told, check-told, sound-told}
 use Rattle.colours.specs.Colour.{colourOf}
 use Rattle.frame.specs.Frame.{cells, frameCell, frameTold, frameLeaves, rasterCell, rasterTold, rasterLeaves}
 use Rattle.marks.specs.Marks.{marksOf, marksTold}
 use Rattle.stretch.specs.Stretch.{stretchOf, stretchTold}
 use Rattle.sound.specs.Values.{counterAfter}
-use Rattle.sound.specs.Play.{playTold, playedOf}
-use Rattle.sound.specs.Pair.{sidesOf}
+use Rattle.sound.specs.Play.{playTable, playTold, playedOf}
+use Rattle.sound.specs.Pair.{sidesOf, pairTable}
 use Rattle.plates.specs.Plate.{sectionsOf, plateOf, plateLength}
-use Rattle.plates.specs.Read.{copyTold, copied}
-use Rattle.plates.specs.Write.{writeTold}
+use Rattle.plates.specs.Read.{readTable, copyTable, copyTold, copied}
+use Rattle.plates.specs.Write.{writeTable, writeTold}
 use Rattle.runs.specs.Text.{textOf}
 use Rattle.vombelishi.specs.Code.{storedBy, cellBy}
 use Rattle.vombelishi.specs.Record.{recordOf, recordTold}
@@ -34,14 +35,15 @@ use Rattle.vombelishi.specs.Sounds.{soundCall, soundLeaves, counterLeaves, pair
 use Rattle.vombelishi.specs.Files.{nineOf, readCall}
 use Rattle.vombelishi.specs.Texts.{textCall, textLeaves}
 use Rattle.vombelishi.proofs.Pictured.{placeOf}
-use Rattle.claims.specs.Calls.{Every, numbers, ByTable, Kept}
-use Rattle.claims.specs.Rows.{wordRows, frameRows, rasterRows, marksRows, stretchRows, playRows, pairRows, readRows, copyRows, writeRows}
+use Rattle.sound.proofs.Told.{play-told, pair-told}
+use Rattle.plates.proofs.Told.{read-told, copy-told, write-told}
+use Rattle.claims.specs.Calls.{Every, numbers, settingNumbers, ByTable, Kept}
+use Rattle.claims.specs.Rows.{frameRows, rasterRows, marksRows, stretchRows}
 use Rattle.claims.specs.CRows.{ofRecord, roomFor, textRows}
 use Rattle.claims.specs.CViews as c
 use Rattle.claims.specs.CViews.{LoadRun, CheckRun, CheckSoundRun, FrameRun, RasterRun, WordsRun, MarksRun, ColourRun}
 use Rattle.claims.specs.CViews.{SoundRun, PairRun, FileRun, WriteRun, TextRun}
-use Rattle.claims.proofs.Judged.{load-told, check-told, sound-told, frame-told, raster-told, marks-told, stretch-told}
-use Rattle.claims.proofs.Judged.{play-told, pair-told, read-told, copy-told, write-told}
+use Rattle.claims.proofs.Judged.{frame-told, raster-told, marks-told, stretch-told}
 use Rattle.claims.proofs.CCodes.{no-rows, plain, fits-after, setting-fits, sound-fits, load-fits}
 use Rattle.claims.proofs.CCodes.{by-code, kept-code, kept-under, record-told, record-fits, record-code, room-code}
 
@@ -50,10 +52,10 @@ module _ (values written : List ℕ) where
   pub vom-load-numbers : (words : List ℕ) → numbers (ofRecord values written λ g. loadTable words) ≡ 13 ∷ 1 ∷ 2 ∷ []
   vom-load-numbers words = refl
 
-  pub vom-load-word-numbers : (word : ℕ) → numbers (ofRecord values written λ g. wordRows word) ≡ 13 ∷ 2 ∷ []
+  pub vom-load-word-numbers : (word : ℕ) → numbers (ofRecord values written λ g. wordTable word) ≡ 13 ∷ 2 ∷ []
   vom-load-word-numbers word = refl
 
-  pub vom-check-numbers : (places : ℕ) → numbers (ofRecord values written settingTable ++ roomFor 21 places) ≡ 13 ∷ 3 ∷ 4 ∷ 5 ∷ 6 ∷ 7 ∷ 8 ∷ 9 ∷ 13 ∷ []
+  pub vom-check-numbers : (places : ℕ) → numbers (ofRecord values written settingTable ++ roomFor 21 places) ≡ 13 ∷ (settingNumbers ++ (13 ∷ []))
   vom-check-numbers places = refl
 
   pub vom-check-sound-numbers : numbers (ofRecord values written soundTable) ≡ 13 ∷ 3 ∷ 10 ∷ []
@@ -78,13 +80,13 @@ module _ (values written : List ℕ) where
   pub vom-colour-numbers : numbers (ofRecord values written λ g. []) ≡ 13 ∷ []
   vom-colour-numbers = refl
 
-  pub vom-sound-numbers : (words places : ℕ) → numbers (ofRecord values written λ g. playRows g words places) ≡ 13 ∷ 3 ∷ 10 ∷ 13 ∷ []
+  pub vom-sound-numbers : (words places : ℕ) → numbers (ofRecord values written λ g. playTable g words places) ≡ 13 ∷ 3 ∷ 10 ∷ 13 ∷ []
   vom-sound-numbers words places = refl
 
-pub vom-sound-pair-numbers : (stereo places : ℕ) → numbers (pairRows stereo ++ roomFor 2 places) ≡ 10 ∷ 13 ∷ []
+pub vom-sound-pair-numbers : (stereo places : ℕ) → numbers (pairTable stereo ++ roomFor 2 places) ≡ 10 ∷ 13 ∷ []
 vom-sound-pair-numbers stereo places = refl
 
-pub vom-read-numbers : (file : List ℕ) (places : ℕ) → numbers (readRows file ++ roomFor 9 places) ≡ 14 ∷ 13 ∷ []
+pub vom-read-numbers : (file : List ℕ) (places : ℕ) → numbers (readTable file ++ roomFor 9 places) ≡ 14 ∷ 13 ∷ []
 vom-read-numbers file places = refl
 
 pub vom-text-numbers : (file : List ℕ) (places : ℕ) → numbers (textRows file places) ≡ 13 ∷ []
@@ -105,13 +107,13 @@ vom-load-refuses κs a x s p =
     )
 
 pub vom-load-word-refuses : Every c.loadWord λ run.
-    ByTable (run .answer) (ofRecord (run .values) (run .written) λ g. wordRows (run .words)) tt
+    ByTable (run .answer) (ofRecord (run .values) (run .written) λ g. wordTable (run .words)) tt
     × Kept (run .answer) (run .values) (run .values-after) × Kept (run .answer) (run .written) (run .written-after)
 unfolding wordCall wordValues wordWritten
 vom-load-word-refuses κs a x s p =
     let run : LoadRun ℕ = c.loadWord .seen κs a x s in
     let t = wordCall (run .values) (run .written) (run .words) in (
-      record-code (run .values) (run .written) (λ g. wordTold (run .words)) (λ g. wordRows (run .words)) (λ g. tt)
+      record-code (run .values) (run .written) (λ g. wordTold (run .words)) (λ g. wordTable (run .words)) (λ g. tt)
           (λ g. plain (omega arith) no-rows) (λ g. refl) (p .0),
       kept-code t (λ u. unlessRefused u (run .values) (valueStored (run .values) (run .words))) (p .0) (p .1) (λ w. refl),
       kept-code t (λ u. unlessRefused u (run .written) (flagStored (run .written) (run .words))) (p .0) (p .2) (λ w. refl),
@@ -209,14 +211,14 @@ vom-colour-refuses κs a x s p =
 
 -- Sound.
 pub vom-sound-refuses : Every c.sound λ run.
-    ByTable (run .answer) (ofRecord (run .values) (run .written) λ g. playRows g (length (run .words)) (length (run .before))) tt
+    ByTable (run .answer) (ofRecord (run .values) (run .written) λ g. playTable g (length (run .words)) (length (run .before))) tt
     × Kept (run .answer) (run .counter) (run .counted) × Kept (run .answer) (run .before) (run .after)
 unfolding soundCall soundLeaves counterLeaves
 vom-sound-refuses κs a x s p =
     let run : SoundRun = c.sound .seen κs a x s in
     let t = soundCall (run .values) (run .written) (length (run .words)) (length (run .before)) in (
       record-code (run .values) (run .written) (λ g. playTold g (length (run .words)) (length (run .before)))
-          (λ g. playRows g (length (run .words)) (length (run .before))) (λ g. tt)
+          (λ g. playTable g (length (run .words)) (length (run .before))) (λ g. tt)
           (λ g. fits-after (sound-fits g) (plain (omega arith) no-rows))
           (λ g. play-told g (length (run .words)) (length (run .before))) (p .0),
       kept-code t (λ u. unlessRefused u (run .counter) (counterAfter (run .counter) (4 * length (run .words)))) (p .0) (p .1) (λ w. refl),
@@ -225,42 +227,42 @@ vom-sound-refuses κs a x s p =
     )
 
 pub vom-sound-pair-refuses : Every c.soundPair λ run.
-    ByTable (run .answer) (pairRows (run .stereo) ++ roomFor 2 (length (run .before))) tt × Kept (run .answer) (run .before) (run .after)
+    ByTable (run .answer) (pairTable (run .stereo) ++ roomFor 2 (length (run .before))) tt × Kept (run .answer) (run .before) (run .after)
 unfolding pairCall
 vom-sound-pair-refuses κs a x s p =
     let run : PairRun = c.soundPair .seen κs a x s in (
-      room-code 2 (length (run .before)) (λ sides. sides .left ∷ sides .right ∷ []) (pairRows (run .stereo)) (sidesOf (run .byte) (run .stereo % 8))
+      room-code 2 (length (run .before)) (λ sides. sides .left ∷ sides .right ∷ []) (pairTable (run .stereo)) (sidesOf (run .byte) (run .stereo % 8))
           (plain (omega arith) no-rows) (pair-told (run .byte) (run .stereo)) (p .0),
       kept-code (pairCall (run .byte) (run .stereo) (length (run .before))) (λ u. storedBy u (run .before)) (p .0) (p .1) (λ w. refl),
     )
 
 -- Plate files.
 pub vom-read-refuses : Every c.read λ run.
-    ByTable (run .answer) (readRows (run .file) ++ roomFor 9 (length (run .before))) tt × Kept (run .answer) (run .before) (run .after)
+    ByTable (run .answer) (readTable (run .file) ++ roomFor 9 (length (run .before))) tt × Kept (run .answer) (run .before) (run .after)
 unfolding readCall
 vom-read-refuses κs a x s p =
     let run : FileRun = c.read .seen κs a x s in (
-      room-code 9 (length (run .before)) nineOf (readRows (run .file)) (sectionsOf (run .file)) (plain (omega arith) no-rows) (read-told (run .file)) (p .0),
+      room-code 9 (length (run .before)) nineOf (readTable (run .file)) (sectionsOf (run .file)) (plain (omega arith) no-rows) (read-told (run .file)) (p .0),
       kept-code (readCall (run .file) (length (run .before))) (λ u. storedBy u (run .before)) (p .0) (p .1) (λ w. refl),
     )
 
 pub vom-copy-refuses : Every c.copy λ run.
-    ByTable (run .answer) (copyRows (run .file) (length (run .before))) tt × Kept (run .answer) (run .before) (run .after)
+    ByTable (run .answer) (copyTable (run .file) (length (run .before))) tt × Kept (run .answer) (run .before) (run .after)
 vom-copy-refuses κs a x s p =
     let run : FileRun = c.copy .seen κs a x s in (
-      by-code (copyRows (run .file) (length (run .before))) tt (plain (omega arith) (plain (omega arith) no-rows))
+      by-code (copyTable (run .file) (length (run .before))) tt (plain (omega arith) (plain (omega arith) no-rows))
           (copy-told (run .file) (length (run .before))) (p .0),
       kept-code (copyTold (run .file) (length (run .before))) (λ u. unlessRefused u (run .before) (sets (run .before) 0 (copied (run .file))))
           (p .0) (p .1) (λ w. refl),
     )
 
 pub vom-write-refuses : Every c.write λ run.
-    ByTable (run .answer) (writeRows (run .registers) (run .video) (run .cursor) (run .sound) (length (run .before))) tt
+    ByTable (run .answer) (writeTable (run .registers) (run .video) (run .cursor) (run .sound) (length (run .before))) tt
     × Kept (run .answer) (run .before) (run .after) × Kept (run .answer) (run .size) (run .size-after)
 vom-write-refuses κs a x s p =
     let run : WriteRun = c.write .seen κs a x s in
     let t = writeTold (run .registers) (run .video) (run .cursor) (run .sound) (length (run .before)) in (
-      by-code (writeRows (run .registers) (run .video) (run .cursor) (run .sound) (length (run .before)))
+      by-code (writeTable (run .registers) (run .video) (run .cursor) (run .sound) (length (run .before)))
           (plateLength (run .registers) (run .video) (run .cursor) (run .sound)) (plain (omega arith) (plain (omega arith) no-rows))
           (write-told (run .registers) (run .video) (run .cursor) (run .sound) (length (run .before))) (p .0),
       kept-code t (λ u. unlessRefused u (run .before) (sets (run .before) 0 (plateOf (run .registers) (run .video) (run .cursor) (run .sound))))

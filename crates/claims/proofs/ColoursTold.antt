@@ -9,7 +9,7 @@ use lib.Dec.{eqb}
 use lib.ListN.{getD}
 use Rattle.buffers.proofs.Tests.{no}
 use Rattle.registers.specs.Colours.{paletteOf}
-use Rattle.registers.specs.Geometry.{depthChoice, depthOf, entriesInUse}
+use Rattle.registers.specs.Control.{depthChoice, depthOf, entriesInUse}
 use Rattle.registers.specs.declared.record.Registers.{Registers}
 use Rattle.colours.specs.Colour.{colourOf}
 use Rattle.claims.specs.Shown.{differ, Distinct, Alike}

@@ -12,6 +12,7 @@ use Rattle.buffers.specs.Painted.{painted}
 use Rattle.buffers.proofs.Paints.{Paints, paints-of}
 use Rattle.buffers.proofs.Words.{Below}
 use Rattle.refusals.specs.Table.{Told, given, unlessRefused}
+use Rattle.refusals.proofs.Tables.{passed}
 use Rattle.registers.specs.Setting.{settingOf, videoWords, cursorWords}
 use Rattle.registers.specs.Rules.{EveryRule}
 use Rattle.registers.specs.declared.record.Registers.{Registers}
@@ -27,6 +28,7 @@ use Rattle.plates.proofs.RoundTrip as round-trip
 use Rattle.claims.specs.Calls.{Every}
 use Rattle.claims.specs.Views as call
 use Rattle.claims.specs.Views.{RasterRun, MarksRun}
+use Rattle.claims.specs.Rows.{rasterRows}
 use Rattle.claims.specs.Framed.{On, Right, Framed, Rastered}
 use Rattle.claims.specs.RoundTrip.{ReadsBack, Cut}
 use Rattle.claims.proofs.Runs.{framed}
@@ -54,9 +56,10 @@ pub each-raster-cell : Every call.raster λ run. run .answer ≡ given tt
     → Rastered (run .registers) (run .video) (run .cursor) (run .raster) (run .before) (run .after)
 each-raster-cell κs a x s p e =
     let run : RasterRun = call.raster .seen κs a x s in
-    let rows = raster-refuses κs a x s p .0 .given-when .0 e in
+    let rows = rasterRows (run .registers) (run .video) (run .cursor) (run .raster) (length (run .before)) in
+    let passes = raster-refuses κs a x s p .0 .given-when .0 e in
     raster-held (run .registers) (run .video) (run .cursor) (run .raster) (run .before) (run .after)
-    (ltb-false (length (run .before)) (settingOf (run .registers) .n .0) (rows .1 .1 .1 .1 .1 .1 .1 .1 .1 .0)) (sym (p .0) ∙ e) (p .1)
+    (ltb-false (length (run .before)) (settingOf (run .registers) .n .0) (passed 13 rows passes)) (sym (p .0) ∙ e) (p .1)
 
 -- The mark count is that of the frame: the cells of code 5 that a run of the frame call left, with grey at or above the threshold.
 marks-in : (g : Registers) (video cursor : List ℕ) (threshold : ℕ) {before after : List ℕ} → Framed g video cursor before after

@@ -5,7 +5,7 @@ use mathlib.Core.Bool.{true, false}
 use mathlib.Core.Logic.{_⊎_, inl, inr}
 use native.Mathlib.Omega.{arith}
 use Rattle.buffers.proofs.Split.{lt-or-le, true-or-false}
-use Rattle.registers.specs.Geometry.{depthOf, entriesInUse}
+use Rattle.registers.specs.Control.{depthOf, entriesInUse}
 use Rattle.registers.specs.Colours.{paletteOf}
 use Rattle.registers.specs.declared.record.Registers.{Registers}
 use Rattle.claims.specs.Shown.{differ, Distinct, Alike}

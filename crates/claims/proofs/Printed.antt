@@ -14,10 +14,13 @@ use Rattle.registers.specs.Load.{loadTable, loadTold}
 use Rattle.registers.specs.Setting.{settingOf}
 use Rattle.registers.specs.Check.{settingTable, checkTold}
 use Rattle.registers.specs.Sound.{soundTable, soundTold}
+use Rattle.refusals.proofs.Tables.{and-then-judged}
 use Rattle.registers.specs.declared.record.Registers.{Registers}
+use Rattle.registers.proofs.Told.{load-told, sound-told}
 use Rattle.frame.specs.Frame.{wordsWrong}
 use Rattle.plates.specs.Plate.{sectionsOf}
-use Rattle.plates.specs.Read.{readTold}
+use Rattle.plates.specs.Read.{readTable, readTold}
+use Rattle.plates.proofs.Told.{read-told}
 use Rattle.runs.specs.Sheet.{mostInput, registerWords, videoList, cursorList, soundList, registersOf, takenTold, pictureTold, sheetTold}
 use Rattle.runs.specs.Text.{refusedLine, pictureLine, lineFor, lineAt, firstLines, textOf}
 use Rattle.runs.specs.Strip.{pictureStrip, stripFor, stripAt, firstStrips, pictureOf}
@@ -26,9 +29,8 @@ use Rattle.claims.specs.Calls.{Every, numbers, ByTable}
 use Rattle.claims.specs.Views as call
 use Rattle.claims.specs.Views.{PieceRun}
 use Rattle.claims.specs.Pieces.{Stored, StoredBy}
-use Rattle.claims.specs.Rows.{marksRows, readRows, takenRows, sheetRows, waveRows}
-use Rattle.claims.proofs.Tables.{by-table, and-then-judged}
-use Rattle.claims.proofs.Judged.{load-told, sound-told, read-told}
+use Rattle.claims.specs.Rows.{marksRows, takenRows, sheetRows, waveRows}
+use Rattle.claims.proofs.Tables.{by-table}
 
 pub wave-numbers : (file : List ℕ) → numbers (waveRows file) ≡ 15 ∷ 14 ∷ 1 ∷ 2 ∷ 3 ∷ 10 ∷ []
 wave-numbers file = refl
@@ -50,8 +52,8 @@ taken-told : (file : List ℕ) → takenTold file ≡ judged (takenRows file) tt
 unfolding takenTold
 taken-told file =
     before (judged (row 15 (ltb mostInput (length file)) 0 ∷ []) (length file)) (andThen (readTold file) (λ _. loadTold (registerWords file)))
-    (length file) tt (row 15 (ltb mostInput (length file)) 0 ∷ []) (readRows file ++ loadTable (registerWords file)) refl
-    (before (readTold file) (loadTold (registerWords file)) (sectionsOf file) tt (readRows file) (loadTable (registerWords file)) (read-told file)
+    (length file) tt (row 15 (ltb mostInput (length file)) 0 ∷ []) (readTable file ++ loadTable (registerWords file)) refl
+    (before (readTold file) (loadTold (registerWords file)) (sectionsOf file) tt (readTable file) (loadTable (registerWords file)) (read-told file)
     (load-told (registerWords file)))
 
 -- A plate is given its setting, or refused, by the printer's table.

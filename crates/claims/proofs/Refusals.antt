@@ -9,37 +9,40 @@ use lib.Seq.{sets}
 use Rattle.buffers.specs.Pick.{pick}
 use Rattle.buffers.specs.Painted.{painted}
 use Rattle.refusals.specs.Table.{refused, Row, judged}
-use Rattle.registers.specs.Record.{storedOf}
+use Rattle.registers.specs.Record.{storedOf, wordTable}
 use Rattle.registers.specs.Load.{applied, loadTable}
 use Rattle.registers.specs.Setting.{settingOf}
 use Rattle.registers.specs.Check.{settingTable}
 use Rattle.registers.specs.Sound.{soundTable}
 use Rattle.registers.specs.declared.record.Registers.{Registers}
+use Rattle.registers.proofs.Told.{load-told, check-told, sound-told}
 use Rattle.frame.specs.Frame.{cells, frameCell, frameLeaves, rasterCell, rasterLeaves}
 use Rattle.marks.specs.Marks.{marksOf}
 use Rattle.stretch.specs.Stretch.{stretchOf, stretchTold, answerTold}
 use Rattle.stretch.specs.declared.found.Stretch.{Stretch}
 use Rattle.sound.specs.Values.{counterAfter}
-use Rattle.sound.specs.Play.{playedOf}
-use Rattle.sound.specs.Pair.{sidesOf}
+use Rattle.sound.specs.Play.{playedOf, playTable}
+use Rattle.sound.specs.Pair.{sidesOf, pairTable}
 use Rattle.plates.specs.Plate.{sectionsOf, plateOf, plateLength}
-use Rattle.plates.specs.Read.{copied}
-use Rattle.claims.specs.Calls.{Every, numbers, ByTable, Kept}
+use Rattle.plates.specs.Read.{copied, readTable, copyTable}
+use Rattle.plates.specs.Write.{writeTable}
+use Rattle.sound.proofs.Told.{play-told, pair-told}
+use Rattle.plates.proofs.Told.{read-told, copy-told, write-told}
+use Rattle.claims.specs.Calls.{Every, numbers, settingNumbers, ByTable, Kept}
 use Rattle.claims.specs.Views as call
 use Rattle.claims.specs.Views.{LoadRun, FrameRun, RasterRun, MarksRun, StretchRun, PlayRun, PairRun, CopyRun, WriteRun}
-use Rattle.claims.specs.Rows.{wordRows, frameRows, rasterRows, marksRows, stretchRows, playRows, pairRows, readRows, copyRows, writeRows}
+use Rattle.claims.specs.Rows.{frameRows, rasterRows, marksRows, stretchRows}
 use Rattle.claims.proofs.Tables.{by-table, kept}
-use Rattle.claims.proofs.Judged.{load-told, check-told, sound-told, frame-told, raster-told, marks-told, stretch-told}
-use Rattle.claims.proofs.Judged.{play-told, pair-told, read-told, copy-told, write-told}
+use Rattle.claims.proofs.Judged.{frame-told, raster-told, marks-told, stretch-told}
 
 -- The numbers of each table, in its order.
-pub load-word-numbers : (word : ℕ) → numbers (wordRows word) ≡ 2 ∷ []
+pub load-word-numbers : (word : ℕ) → numbers (wordTable word) ≡ 2 ∷ []
 load-word-numbers word = refl
 
 pub load-numbers : (words : List ℕ) → numbers (loadTable words) ≡ 1 ∷ 2 ∷ []
 load-numbers words = refl
 
-pub check-numbers : (g : Registers) → numbers (settingTable g) ≡ 3 ∷ 4 ∷ 5 ∷ 6 ∷ 7 ∷ 8 ∷ 9 ∷ []
+pub check-numbers : (g : Registers) → numbers (settingTable g) ≡ settingNumbers
 check-numbers g = refl
 
 pub frame-numbers : (g : Registers) (video cursor : List ℕ) (room : ℕ) → numbers (frameRows g video cursor room) ≡ 3 ∷ 4 ∷ 5 ∷ 6 ∷ 7 ∷ 8 ∷ 9 ∷ 11 ∷ 13 ∷ []
@@ -58,27 +61,27 @@ raster-words-numbers g video y = refl
 pub check-sound-numbers : (g : Registers) → numbers (soundTable g) ≡ 3 ∷ 10 ∷ []
 check-sound-numbers g = refl
 
-pub play-numbers : (g : Registers) (words places : ℕ) → numbers (playRows g words places) ≡ 3 ∷ 10 ∷ 13 ∷ []
+pub play-numbers : (g : Registers) (words places : ℕ) → numbers (playTable g words places) ≡ 3 ∷ 10 ∷ 13 ∷ []
 play-numbers g words places = refl
 
-pub pair-numbers : (stereo : ℕ) → numbers (pairRows stereo) ≡ 10 ∷ []
+pub pair-numbers : (stereo : ℕ) → numbers (pairTable stereo) ≡ 10 ∷ []
 pair-numbers stereo = refl
 
-pub read-numbers : (file : List ℕ) → numbers (readRows file) ≡ 14 ∷ []
+pub read-numbers : (file : List ℕ) → numbers (readTable file) ≡ 14 ∷ []
 read-numbers file = refl
 
-pub copy-out-numbers : (file : List ℕ) (places : ℕ) → numbers (copyRows file places) ≡ 14 ∷ 13 ∷ []
+pub copy-out-numbers : (file : List ℕ) (places : ℕ) → numbers (copyTable file places) ≡ 14 ∷ 13 ∷ []
 copy-out-numbers file places = refl
 
-pub write-numbers : (rs vs cs ss : List ℕ) (places : ℕ) → numbers (writeRows rs vs cs ss places) ≡ 15 ∷ 13 ∷ []
+pub write-numbers : (rs vs cs ss : List ℕ) (places : ℕ) → numbers (writeTable rs vs cs ss places) ≡ 15 ∷ 13 ∷ []
 write-numbers rs vs cs ss places = refl
 
 -- Loading.
 pub load-word-refuses : Every call.loadWord λ run.
-    ByTable (run .answer) (wordRows (run .words)) tt × Kept (run .answer) (run .registers) (run .loaded)
+    ByTable (run .answer) (wordTable (run .words)) tt × Kept (run .answer) (run .registers) (run .loaded)
 load-word-refuses κs a x s p =
     let run : LoadRun ℕ = call.loadWord .seen κs a x s in
-    (by-table tt (wordRows (run .words)) (p .0), kept (storedOf (run .registers) (run .words)) (p .0) (p .1))
+    (by-table tt (wordTable (run .words)) (p .0), kept (storedOf (run .registers) (run .words)) (p .0) (p .1))
 
 pub load-refuses : Every call.load λ run.
     ByTable (run .answer) (loadTable (run .words)) tt × Kept (run .answer) (run .registers) (run .loaded)
@@ -152,7 +155,7 @@ raster-words-refuses κs a x s p =
 
 -- Sound.
 pub play-refuses : Every call.play λ run.
-    ByTable (run .answer) (playRows (run .registers) (length (run .words)) (length (run .before))) tt
+    ByTable (run .answer) (playTable (run .registers) (length (run .words)) (length (run .before))) tt
     × Kept (run .answer) (run .before) (run .after) × Kept (run .answer) (run .counter) (run .counted)
 play-refuses κs a x s p =
     let run : PlayRun = call.play .seen κs a x s in (
@@ -161,21 +164,21 @@ play-refuses κs a x s p =
       kept (counterAfter (run .counter) (4 * length (run .words))) (p .0) (p .1),
     )
 
-pub pair-refuses : Every call.pair λ run. ByTable (run .answer) (pairRows (run .stereo)) (sidesOf (run .byte) (run .stereo % 8))
+pub pair-refuses : Every call.pair λ run. ByTable (run .answer) (pairTable (run .stereo)) (sidesOf (run .byte) (run .stereo % 8))
 pair-refuses κs a x s p = let run : PairRun = call.pair .seen κs a x s in by-table _ _ (p ∙ pair-told (run .byte) (run .stereo))
 
 -- Plate files.
-pub read-refuses : Every call.read λ run. ByTable (run .answer) (readRows (run .file)) (sectionsOf (run .file))
+pub read-refuses : Every call.read λ run. ByTable (run .answer) (readTable (run .file)) (sectionsOf (run .file))
 read-refuses κs a x s p = by-table _ _ (p ∙ read-told (call.read .seen κs a x s .file))
 
 pub copy-out-refuses : Every call.copyOut λ run.
-    ByTable (run .answer) (copyRows (run .file) (length (run .before))) tt × Kept (run .answer) (run .before) (run .after)
+    ByTable (run .answer) (copyTable (run .file) (length (run .before))) tt × Kept (run .answer) (run .before) (run .after)
 copy-out-refuses κs a x s p =
     let run : CopyRun = call.copyOut .seen κs a x s in
     (by-table tt _ (p .0 ∙ copy-told (run .file) (length (run .before))), kept (sets (run .before) 0 (copied (run .file))) (p .0) (p .1))
 
 pub write-refuses : Every call.write λ run.
-    ByTable (run .answer) (writeRows (run .registers) (run .video) (run .cursor) (run .sound) (length (run .before)))
+    ByTable (run .answer) (writeTable (run .registers) (run .video) (run .cursor) (run .sound) (length (run .before)))
     (plateLength (run .registers) (run .video) (run .cursor) (run .sound))
     × Kept (run .answer) (run .before) (run .after)
 write-refuses κs a x s p =

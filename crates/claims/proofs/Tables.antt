@@ -1,11 +1,8 @@
--- A judged table answers by that table, and a table judged after another is judged as one with it.
-use Prim.Native.Nat.{ℕ}
-use mathlib.Core.Path.{_≡_, refl, sym, _∙_, ap, subst}
-use mathlib.Core.Bool.{Bool, true, false}
-use mathlib.Core.List.{List, [], _∷_, _++_}
+-- A judged table answers by that table, and where it refuses nothing is changed.
+use mathlib.Core.Path.{_≡_, sym, _∙_, ap, subst}
+use mathlib.Core.List.{List, [], _∷_}
 use mathlib.Core.Logic.{inl, inr}
-use Rattle.buffers.specs.Pick.{pick}
-use Rattle.refusals.specs.Table.{Why, Told, refused, Row, judged, andThen, unlessRefused, First}
+use Rattle.refusals.specs.Table.{Why, Told, refused, Row, judged, unlessRefused, First}
 use Rattle.refusals.proofs.Tables.{passes-given, given-passes, refused-first, first-refused}
 use Rattle.claims.specs.Calls.{numbers, OneOf, ByTable, Kept}
 
@@ -27,18 +24,6 @@ module _ {A : Type 0} (a : A) where
   -- An answer that tells what a table judges.
   pub by-table : {t : Told A} (rows : List Row) → t ≡ judged rows a → ByTable t rows a
   by-table rows e = subst (λ (u : Told A). ByTable u rows a) (sym e) (judged-table rows)
-
--- One table after another; the second may speak of what the first gives.
-pub and-then-judged : {A B : Type 0} (b : B) (rows : List Row) (more : B → List Row) (a : B → A)
-    → andThen (judged rows b) (λ c. judged (more c) (a c)) ≡ judged (rows ++ more b) (a b)
-and-then-judged b [] more a = refl
-and-then-judged b (r ∷ rs) more a = go (r .when) (and-then-judged b rs more a)
-  where
-    go : (t : Bool) → andThen (judged rs b) (λ c. judged (more c) (a c)) ≡ judged (rs ++ more b) (a b)
-        → andThen (pick t (refused (r .tells)) (judged rs b)) (λ c. judged (more c) (a c))
-        ≡ pick t (refused (r .tells)) (judged (rs ++ more b) (a b))
-    go true e = refl
-    go false e = e
 
 -- What is left as it was where a call is refused.
 pub kept : {A B : Type 0} {t u : Told A} {before after : B} (then : B) → u ≡ t → after ≡ unlessRefused t before then → Kept u before after

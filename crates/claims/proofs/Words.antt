@@ -8,7 +8,7 @@ use Rattle.refusals.specs.Table.{Why, Told, given, refused, Row, Passes, First}
 use Rattle.registers.specs.Setting.{settingOf}
 use Rattle.registers.specs.Check.{settingTable, checkTold}
 use Rattle.registers.specs.declared.record.Registers.{Registers}
-use Rattle.refusals.proofs.Tables.{passes-given}
+use Rattle.refusals.proofs.Tables.{passes-first, passes-given}
 use Rattle.registers.proofs.Accepted.{Accepted, accepted}
 use Rattle.frame.specs.Pixel.{pixel, logical}
 use Rattle.stretch.specs.Stretch.{isDisplayed, stretchOf, stretchTable, stretchTold, wordsTold, startTold}
@@ -55,10 +55,6 @@ raster-words-undisplayed κs a x s p h = p .words ∙ go (stretchTold g video y)
     go (given q) e =
         let none = stretch-none (settingOf g) y (λ l. false≢true (sym h ∙ is-displayed (settingOf g) y (l .0) (l .1))) in
         ap (λ (u : Stretch). take (u .count) (drop (u .start) video)) (stretch-table g video y .given-what q e ∙ sym none)
-
-passes-first : (rows more : List Row) → Passes (rows ++ more) → Passes rows
-passes-first [] more q = tt
-passes-first (r ∷ rs) more q = (q .0, passes-first rs more (q .1))
 
 passes-accepted : (g : Registers) (more : List Row) → Passes (settingTable g ++ more) → Accepted (settingOf g)
 unfolding checkTold

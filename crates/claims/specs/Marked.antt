@@ -8,7 +8,9 @@ use lib.IntN.{pos, negsuc}
 use Rattle.refusals.specs.Table.{why, given, refused}
 use Rattle.registers.specs.Record.{fresh, storedOf, writtenAt}
 use Rattle.registers.specs.Load.{applied}
-use Rattle.registers.specs.Geometry.{tenBits, pixelRate, depthOf}
+use Rattle.registers.specs.Addresses.{HCR, STEREO}
+use Rattle.registers.specs.Control.{pixelRate, depthOf}
+use Rattle.registers.specs.Geometry.{tenBits}
 use Rattle.registers.specs.Setting.{settingOf, displayOn}
 use Rattle.registers.specs.Stereo.{stereoOf}
 use Rattle.registers.specs.Check.{checkTold}
@@ -36,12 +38,12 @@ smallVideo = 0x76543210 ∷ []
 abbrev pub markedCases : List (Type 0)
 markedCases =
     -- 1: 8003C000H sets HCR 15, N = 32
-    ((tenBits (storedOf fresh 0x8003C000) 0x80 ≡ 15) × (settingOf (storedOf fresh 0x8003C000) .n .0 ≡ 32))
+    ((tenBits (storedOf fresh 0x8003C000) HCR ≡ 15) × (settingOf (storedOf fresh 0x8003C000) .n .0 ≡ 32))
     -- 2: E000000BH: 24 MHz, depth 4
     ∷ ((pixelRate (storedOf fresh 0xE000000B) ≡ 24) × (depthOf (storedOf fresh 0xE000000B) ≡ 4))
     -- 3: 60000001H sets stereo 7, not 0
     ∷ ((stereoOf (storedOf fresh 0x60000001) 7 ≡ 1) × (stereoOf (storedOf fresh 0x60000001) 0 ≡ 0)
-    × (writtenAt (storedOf fresh 0x60000001) 0x60 ≡ true) × (writtenAt (storedOf fresh 0x60000001) 0x64 ≡ false))
+    × (writtenAt (storedOf fresh 0x60000001) (STEREO 7) ≡ true) × (writtenAt (storedOf fresh 0x60000001) (STEREO 0) ≡ false))
     -- 4: depth 8, entry 15 = 1FFFH: byte 0FH gives 1737H, FFH gives 1FFFH
     ∷ ((depthOf (applied fresh (0xE000000C ∷ 0x3C001FFF ∷ [])) ≡ 8)
     × (colourOf (applied fresh (0xE000000C ∷ 0x3C001FFF ∷ [])) 8 0x0F ≡ 0x1737)

@@ -6,7 +6,7 @@ use mathlib.Core.List.{List}
 use lib.Dec.{ltb, eqb}
 use lib.ListN.{take}
 use Rattle.buffers.specs.Pick.{pick}
-use Rattle.registers.specs.Geometry.{depthOf, entriesInUse}
+use Rattle.registers.specs.Control.{depthOf, entriesInUse}
 use Rattle.registers.specs.Colours.{paletteOf}
 use Rattle.registers.specs.declared.record.Registers.{Registers}
 use Rattle.registers.specs.declared.setting.Setting.{Setting}

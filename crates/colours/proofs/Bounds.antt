@@ -1,4 +1,4 @@
--- Colours have 13 bits and greys 8.
+-- Colours have 13 bits and greys 8: each is put together of bits that lie below.
 use Prim.Native.Nat.{ℕ, _<_, _≤_}
 use mathlib.Core.Bool.{Bool, true, false}
 use native.Mathlib.Omega.{arith}

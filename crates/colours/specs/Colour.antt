@@ -1,7 +1,8 @@
 -- The colour that a logical pixel shows.
-use Prim.Native.Nat.{ℕ, _+_, _*_, _/_, _%_, _^_}
+use Prim.Native.Nat.{ℕ, _+_, _*_, _^_}
 use mathlib.Core.List.{List}
 use lib.Dec.{eqb}
+use Rattle.buffers.specs.Bits.{bits}
 use Rattle.buffers.specs.Pick.{pick}
 use Rattle.buffers.specs.Values.{valuesFrom}
 use Rattle.registers.specs.Colours.{paletteOf}
@@ -10,12 +11,12 @@ use Rattle.registers.specs.declared.record.Registers.{Registers}
 -- Depth 8: of the entry e bits 12, 10-8, 5, 4, 2-0 are shown; pixel bits 7, 6, 5, 4 become colour bits 11, 7, 6, 3.
 abbrev pub mixed : ℕ → ℕ → ℕ
 mixed e p =
-    e / 4096 % 2 * 4096 + p / 128 % 2 * 2048 + e / 256 % 8 * 256 + p / 64 % 2 * 128 + p / 32 % 2 * 64 + e / 16 % 4 * 16
-    + p / 16 % 2 * 8 + e % 8
+    bits 12 12 e * 2 ^ 12 + bits 7 7 p * 2 ^ 11 + bits 10 8 e * 2 ^ 8 + bits 6 6 p * 2 ^ 7 + bits 5 5 p * 2 ^ 6 + bits 5 4 e * 2 ^ 4
+    + bits 4 4 p * 2 ^ 3 + bits 2 0 e
 
 -- Depth 1, 2, 4: the entry in all 13 bits.
 abbrev pub shownOf : ℕ → ℕ → ℕ → ℕ
-shownOf e d p = pick (eqb d 8) (mixed e p) (e % 2 ^ 13)
+shownOf e d p = pick (eqb d 8) (mixed e p) (bits 12 0 e)
 
 -- The logical pixel picks the entry, at depth 8 its low nibble.
 abbrev pub colourOf : Registers → ℕ → ℕ → ℕ

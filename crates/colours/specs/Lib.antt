@@ -1,3 +1,5 @@
+pub mod Guns
 pub mod Colour
 pub mod Grey
+pub mod Cells
 pub mod Pin

@@ -1,12 +1,12 @@
 -- The sync pin's level for a code and the control data: 0 low, 1 high.
-use Prim.Native.Nat.{ℕ, _/_, _%_}
+use Prim.Native.Nat.{ℕ}
 use mathlib.Core.Bool.{Bool, _||_}
 use lib.Dec.{eqb}
 use Rattle.buffers.specs.Pick.{pick}
+use Rattle.registers.specs.Control.{compositeField}
 
--- Control bit 7.
 abbrev pub composite : ℕ → Bool
-composite control = eqb (control / 0x80 % 2) 1
+composite control = eqb (compositeField control) 1
 
 -- Without composite, low exactly for codes 2 and 3. With it, the XNOR of the two active-low syncs: low for 1 and 2.
 abbrev pub pinOf : ℕ → ℕ → ℕ

@@ -8,7 +8,8 @@ use lib.ListN.{length, getD, drop, set}
 use lib.Seq.{sets, drop-cons, drop-length}
 use borrow.Author.Tests.{lt-ltb, le-ltb}
 use Rattle.buffers.specs.Put.{Put}
-use Rattle.pictures.specs.Colours.{red, green, blue, cellColour, gunsOf, gunsIn}
+use Rattle.colours.specs.Cells.{cellColour}
+use Rattle.pictures.specs.Colours.{red, green, blue, gunsOf, gunsIn}
 
 pub length-guns : (cells : List ℕ) → length (gunsOf cells) ≡ 3 * length cells
 unfolding gunsOf
@@ -18,7 +19,8 @@ length-guns (x ∷ xs) = omega (arith, length-guns xs)
 -- three stores
 pub guns-turn : (l cells : List ℕ) (k r g b : ℕ) → k < length cells
     → r ≡ red (cellColour (getD cells k 0)) → g ≡ green (cellColour (getD cells k 0)) → b ≡ blue (cellColour (getD cells k 0))
-    → sets (set (set (set l (3 * k) r) (3 * k + 1) g) (3 * k + 2) b) (3 * (k + 1)) (gunsOf (drop (k + 1) cells)) ≡ sets l (3 * k) (gunsOf (drop k cells))
+    → sets (set (set (set l (3 * k) r) (3 * k + 1) g) (3 * k + 2) b) (3 * (k + 1)) (gunsOf (drop (k + 1) cells))
+    ≡ sets l (3 * k) (gunsOf (drop k cells))
 unfolding gunsOf
 guns-turn l cells k r g b h er eg eb =
     let p : 3 * k + 1 ≡ suc (3 * k) = omega arith in

@@ -1,24 +1,23 @@
 -- The bytes of a picture: red, green and blue of each cell.
-use Prim.Native.Nat.{ℕ, _*_, _/_, _%_}
+use Prim.Native.Nat.{ℕ, _*_}
 use mathlib.Core.List.{List, [], _∷_}
 use lib.ListN.{length}
 use lib.Dec.{ltb}
 use Rattle.buffers.specs.Pick.{pick}
+use Rattle.colours.specs.Guns.{redGun, greenGun, blueGun}
+use Rattle.colours.specs.Cells.{cellColour}
 
--- Colours: bits 3-0 red, 7-4 green, 11-8 blue; a gun of 15 is 255.
+-- Each gun times 17: a gun of 15 is 255.
 abbrev pub red : ℕ → ℕ
-red colour = 17 * (colour % 16)
+red colour = 17 * redGun colour
 
 abbrev pub green : ℕ → ℕ
-green colour = 17 * (colour / 16 % 16)
+green colour = 17 * greenGun colour
 
 abbrev pub blue : ℕ → ℕ
-blue colour = 17 * (colour / 256 % 16)
+blue colour = 17 * blueGun colour
 
--- A cell is its code × 8192 and its colour, which is 0 for sync and blank cells.
-abbrev pub cellColour : ℕ → ℕ
-cellColour cell = cell % 8192
-
+-- A cell's colour is 0 for sync and blank cells.
 unfoldable pub gunsOf : List ℕ → List ℕ
 gunsOf [] = []
 gunsOf (x ∷ xs) = red (cellColour x) ∷ green (cellColour x) ∷ blue (cellColour x) ∷ gunsOf xs

@@ -17,7 +17,7 @@ use Rattle.plates.specs.Plate.{mostBytes, sectionsBy, plateOf, plateLeng
 use Rattle.plates.specs.Read.{readSays, readTold, copyTold, copied}
 use Rattle.plates.specs.Write.{writeSays, writeTold}
 use Rattle.plates.specs.declared.Sections.{Sections}
-use Rattle.plates.proofs.Calls.{right-given, right-ordered, right-short}
+use Rattle.plates.proofs.Calls.{right-given, right-ordered, right-short, copy-rows}
 use Rattle.plates.proofs.Plates.{write-done}
 use Rattle.plates.proofs.Written.{length-plate, plate-read, plate-copied}
 use Rattle.plates.proofs.Again.{cut-plate}
@@ -41,9 +41,8 @@ pub record ReadsBack (file rs vs cs ss : List ℕ) : Type 0 where
       → (answerSays x ≡ given tt) × (now (s .1 .0) ≡ sets (now (a .1 .0)) 0 (rs ++ vs ++ cs ++ ss))
 
 -- copying out of a file that is read
-copy-told : (file : List ℕ) (sections : Sections) (n : ℕ) → readTold file ≡ given sections → sections .r ≤ n → copyTold file n ≡ given tt
-unfolding copyTold
-copy-told file sections n e h = rw (e, le-ltb n (sections .r) h)
+copied-told : (file : List ℕ) (sections : Sections) (n : ℕ) → readTold file ≡ given sections → sections .r ≤ n → copyTold file n ≡ given tt
+copied-told file sections n e h = rw (copy-rows file n, e, le-ltb n (sections .r) h)
 
 written-told :
     (rs vs cs ss out : List ℕ) → plateLength rs vs cs ss ≤ mostBytes → plateLength rs vs cs ss ≤ length out
@@ -60,7 +59,7 @@ module _
         copying = λ κs a x s p e h.
             let t : copyTold (now (a .0)) (length (now (a .1 .0))) ≡ given tt =
             ap (λ (l : List ℕ). copyTold l (length (now (a .1 .0)))) e
-            ∙ copy-told (plateOf rs vs cs ss) _ (length (now (a .1 .0))) (plate-read rs vs cs ss br bv bc bs fits) h in (
+            ∙ copied-told (plateOf rs vs cs ss) _ (length (now (a .1 .0))) (plate-read rs vs cs ss br bv bc bs fits) h in (
               p .0 ∙ t,
               p .1 ∙ ap (λ (u : Told (Unit {0})). unlessRefused u (now (a .1 .0)) (sets (now (a .1 .0)) 0 (copied (now (a .0))))) t
                   ∙ ap (λ (l : List ℕ). sets (now (a .1 .0)) 0 (copied l)) e
@@ -125,7 +124,7 @@ written-again-the-same κr b y t κc d z u κw a x s file sections small pr er a
     let words : now (u .1 .0) ≡ sets m 0 (copied file) =
     pc .1
     ∙ ap (λ (l : List ℕ). unlessRefused (copyTold l (length m)) m (sets m 0 (copied l))) ed
-    ∙ ap (λ (v : Told (Unit {0})). unlessRefused v m (sets m 0 (copied file))) (copy-told file sections (length m) given-read room) in
+    ∙ ap (λ (v : Told (Unit {0})). unlessRefused v m (sets m 0 (copied file))) (copied-told file sections (length m) given-read room) in
     let plate : plateOf rs vs cs ss ≡ file =
     cut-plate file (g .is-right) small m rs vs cs ss (omega (arith, ap (λ (q : Sections). q .r) (g .are)))
     (e0 ∙ rw (words, g .are, quarter))

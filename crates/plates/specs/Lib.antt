@@ -1,3 +1,4 @@
 pub mod Plate
 pub mod Read
 pub mod Write
+pub mod inner

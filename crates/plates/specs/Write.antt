@@ -4,7 +4,7 @@ use mathlib.Core.List.{List, [], _∷_}
 use lib.Dec.{ltb}
 use lib.ListN.{length}
 use lib.Seq.{sets}
-use Rattle.refusals.specs.Table.{Told, row, judged, given, unlessRefused}
+use Rattle.refusals.specs.Table.{Told, Row, row, judged, given, unlessRefused}
 use Rattle.refusals.specs.Refusals.{refusal}
 use Rattle.plates.specs.Plate.{mostBytes, plateOf, plateLength}
 use Rattle.plates.specs.declared.Writing.{Writing}
@@ -16,10 +16,12 @@ writeSays (Bytes n) = given n
 writeSays (Refused why) = refusal why
 
 -- Writing into a list of some bytes.
+abbrev pub writeTable : List ℕ → List ℕ → List ℕ → List ℕ → ℕ → List Row
+writeTable rs vs cs ss places =
+    row 15 (ltb mostBytes (plateLength rs vs cs ss)) 0 ∷ row 13 (ltb places (plateLength rs vs cs ss)) 0 ∷ []
+
 unfoldable pub writeTold : List ℕ → List ℕ → List ℕ → List ℕ → ℕ → Told ℕ
-writeTold rs vs cs ss places =
-    judged (row 15 (ltb mostBytes (plateLength rs vs cs ss)) 0 ∷ row 13 (ltb places (plateLength rs vs cs ss)) 0 ∷ [])
-    (plateLength rs vs cs ss)
+writeTold rs vs cs ss places = judged (writeTable rs vs cs ss places) (plateLength rs vs cs ss)
 
 -- What the lent memory holds afterwards.
 abbrev pub writeLeaves : List ℕ → List ℕ → List ℕ → List ℕ → List ℕ → List ℕ

@@ -12,7 +12,8 @@ ghost use lib.ListN.{length};
 ghost use lib.Seq.{sets};
 ghost use Rattle.refusals.specs.Refusals.{answerSays};
 ghost use Rattle.plates.specs.Plate.{mostBytes, plateOf, plateLength, sectionsBy};
-ghost use Rattle.plates.specs.Read.{readSays, trailerTold, readTold, copyTold, copyLeaves};
+ghost use Rattle.plates.specs.Read.{readSays, readTold, copyTold, copyLeaves};
+ghost use Rattle.plates.specs.inner.Trailer.{trailerTold};
 ghost use Rattle.plates.specs.Write.{writeSays, writeTold, writeLeaves};
 
 // The most bytes that a plate may have.

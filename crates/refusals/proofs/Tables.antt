@@ -22,6 +22,11 @@ passed n (r ∷ rs) p = go (eqb (r .tells .number) n) (passed n rs (p .1))
     go true e = p .0
     go false e = e
 
+-- a table passed, row by row, each by the fact that its test does not hold: `fact ⨾ fact ⨾ .. ⨾ tt`
+infixr 5 _⨾_
+pub _⨾_ : {A B : Type 0} → A → B → A × B
+e ⨾ p = (e, p)
+
 -- two tables one after the other
 pub passes-both : (rows more : List Row) → Passes rows → Passes more → Passes (rows ++ more)
 passes-both [] more p q = q

@@ -5,10 +5,11 @@ use mathlib.Core.Bool.{Bool, true, false, _&&_, _||_, not}
 use mathlib.Core.Logic.{_⊎_, inl, inr, _↔_}
 use native.Mathlib.Omega.{arith}
 use lib.Dec.{ltb, leb, eqb}
-use lib.ListN.{getD}
 use borrow.Author.Tests.{ltb-true, ltb-false, leb-true, eqb-true, not-true, not-false, lt-ltb, le-ltb, le-leb, eq-eqb}
 use Rattle.buffers.proofs.Tests.{and-split, and-join, or-split, or-left, or-right}
-use Rattle.refusals.specs.Table.{Why, given, refused, First}
+use Rattle.refusals.specs.Table.{Why, given, refused, Passes, First}
+use Rattle.refusals.proofs.Tables.{_⨾_, passed, passes-given, given-passes, refused-first, first-refused}
+use Rattle.registers.specs.Record.{writtenIn}
 use Rattle.registers.specs.Geometry.{subPosition}
 use Rattle.registers.specs.Setting.{settingOf, displayOn, borderOn}
 use Rattle.registers.specs.Needed.{needed, missing}
@@ -19,7 +20,6 @@ use Rattle.registers.specs.declared.record.Registers.{Registers}
 use Rattle.registers.specs.declared.setting.Setting.{Setting}
 use Rattle.registers.specs.declared.lowest.Fault.the-variants.{Unwritten}
 use Rattle.registers.proofs.First.{lowest-passes, lowest-fails}
-use Rattle.refusals.proofs.Tables.{passes-given, given-passes, refused-first, first-refused}
 
 not-of : {t : Bool} → t ≡ true → not t ≡ false
 not-of e = rw e
@@ -109,13 +109,13 @@ module _ (s : Setting) where
 
 module _ (g : Registers) where
   -- row 3
-  all-written : ltb (unwritten g) 64 ≡ false → (slot : ℕ) → slot < 64 → needed g slot ≡ true → getD (g .written) slot false ≡ true
+  all-written : ltb (unwritten g) 64 ≡ false → (slot : ℕ) → slot < 64 → needed g slot ≡ true → writtenIn g slot ≡ true
   all-written e slot h n =
       let low : 64 ≤ unwritten g = ltb-false _ _ e in
       let f : missing g slot ≡ false = lowest-fails (faultAt g Unwritten) 64 0 slot (omega arith) (omega arith) in
-      not-false _ (sym (ap (λ (b : Bool). b && not (getD (g .written) slot false)) n) ∙ f)
+      not-false _ (sym (ap (λ (b : Bool). b && not (writtenIn g slot)) n) ∙ f)
 
-  none-missing : ((slot : ℕ) → slot < 64 → needed g slot ≡ true → getD (g .written) slot false ≡ true) → ltb (unwritten g) 64 ≡ false
+  none-missing : ((slot : ℕ) → slot < 64 → needed g slot ≡ true → writtenIn g slot ≡ true) → ltb (unwritten g) 64 ≡ false
   none-missing all = go (ltb (unwritten g) 64) refl
     where
       go : (b : Bool) → ltb (unwritten g) 64 ≡ b → b ≡ false
@@ -123,9 +123,9 @@ module _ (g : Registers) where
       go true e =
           let h : unwritten g < 64 = ltb-true _ _ e in
           let m : missing g (unwritten g) ≡ true = lowest-passes (faultAt g Unwritten) 64 0 h in
-          let p = and-split (needed g (unwritten g)) (not (getD (g .written) (unwritten g) false)) m in
+          let p = and-split (needed g (unwritten g)) (not (writtenIn g (unwritten g))) m in
           let w = all (unwritten g) h (p .0) in
-          cc (w, not-true (getD (g .written) (unwritten g) false) (p .1))
+          cc (w, not-true (writtenIn g (unwritten g)) (p .1))
 
   -- where the cursor's test is passed
   cursor-right : cursorRule g (settingOf g) ≡ true → settingOf g .cursor ≡ true → (subPosition g ≡ 0) × (settingOf g .vce .0 ≤ settingOf g .v .0)
@@ -144,51 +144,42 @@ module _ (g : Registers) where
       go true e = or-right (not (settingOf g .cursor)) (and-join (eq-eqb _ _ (h e .0)) (le-leb _ _ (h e .1)))
       go false e = or-left (eqb (subPosition g) 0 && leb (settingOf g .vce .0) (settingOf g .v .0)) (not-off e)
 
-  -- what an accepted record has
+  -- what an accepted record has: no row's test holds, each found by its number
   pub every-rule : (s : Setting) → checkTold g ≡ given s → EveryRule g
   unfolding checkTold
   every-rule s e =
-      let p = given-passes (settingOf g) (settingTable g) s e .0 in
+      let rows = settingTable g in
+      let p = given-passes (settingOf g) rows s e .0 in
       record {
-        written = all-written (p .0);
-        test-mode = eqb-true _ _ (not-false _ (p .1 .0));
-        interlace = eqb-true _ _ (not-false _ (p .1 .1 .0));
-        horizontal = horizontal-right (settingOf g) (not-false _ (p .1 .1 .1 .0));
-        vertical = vertical-right (settingOf g) (not-false _ (p .1 .1 .1 .1 .0));
-        width = eqb-true _ _ (not-false _ (p .1 .1 .1 .1 .1 .0));
-        cursor = cursor-right (not-false _ (p .1 .1 .1 .1 .1 .1 .0));
+        written = all-written (passed 3 rows p);
+        test-mode = eqb-true _ _ (not-false _ (passed 4 rows p));
+        interlace = eqb-true _ _ (not-false _ (passed 5 rows p));
+        horizontal = horizontal-right (settingOf g) (not-false _ (passed 6 rows p));
+        vertical = vertical-right (settingOf g) (not-false _ (passed 7 rows p));
+        width = eqb-true _ _ (not-false _ (passed 8 rows p));
+        cursor = cursor-right (not-false _ (passed 9 rows p));
       }
 
   pub accepted-setting : (s : Setting) → checkTold g ≡ given s → s ≡ settingOf g
   unfolding checkTold
   accepted-setting s e = sym (given-passes (settingOf g) (settingTable g) s e .1)
 
+  -- a record that keeps every rule passes the table, row by row
+  passes : EveryRule g → Passes (settingTable g)
+  passes h =
+      none-missing (h .written)
+      ⨾ not-of (eq-eqb _ _ (h .test-mode))
+      ⨾ not-of (eq-eqb _ _ (h .interlace))
+      ⨾ not-of (horizontal-tests (settingOf g) (h .horizontal))
+      ⨾ not-of (vertical-tests (settingOf g) (h .vertical))
+      ⨾ not-of (eq-eqb _ _ (h .width))
+      ⨾ not-of (cursor-tests (h .cursor))
+      ⨾ tt
+
   -- accepted exactly when every rule holds
   pub exactly : (checkTold g ≡ given (settingOf g)) ↔ EveryRule g
   unfolding checkTold
-  exactly = (
-    every-rule (settingOf g),
-    λ h.
-        passes-given (settingOf g) (settingTable g) (
-          none-missing (h .written),
-          (
-            not-of (eq-eqb _ _ (h .test-mode)),
-            (
-              not-of (eq-eqb _ _ (h .interlace)),
-              (
-                not-of (horizontal-tests (settingOf g) (h .horizontal)),
-                (
-                  not-of (vertical-tests (settingOf g) (h .vertical)),
-                  (
-                    not-of (eq-eqb _ _ (h .width)),
-                    (not-of (cursor-tests (h .cursor)), tt),
-                  ),
-                ),
-              ),
-            ),
-          ),
-        ),
-  )
+  exactly = (every-rule (settingOf g), λ h. passes-given (settingOf g) (settingTable g) (passes h))
 
   -- and refused exactly with the first rule broken
   pub first-broken : (w : Why) → (checkTold g ≡ refused w) ↔ First (settingTable g) w

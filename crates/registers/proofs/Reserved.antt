@@ -10,7 +10,8 @@ use borrow.Author.Tests.{ltb-true, ltb-false, lt-ltb, ne-eqb}
 use Rattle.buffers.specs.Pick.{pick}
 use Rattle.buffers.proofs.Table.{at}
 use Rattle.buffers.proofs.Tests.{and-split, or-right, or-neither}
-use Rattle.registers.specs.Record.{addresses, oneOf, reserved}
+use Rattle.registers.specs.Addresses.{addresses}
+use Rattle.registers.specs.Record.{oneOf, reserved}
 
 -- Behind the cursor's palette up to the stereo registers, behind the sound frequency up to control, and behind control.
 abbrev pub inGap : ℕ → Bool

@@ -1,11 +1,32 @@
--- What a check's answer tells determines the answer: two answers that tell the same are the same.
-use mathlib.Core.Path.{_≡_, sym, ap}
+-- What each call tells is its table judged, as it is defined; and what a check's answer tells determines the answer.
+use Prim.Native.Nat.{ℕ}
+use mathlib.Core.Path.{_≡_, refl, sym, ap}
+use mathlib.Core.List.{List}
+use Rattle.refusals.specs.Table.{judged}
 use Rattle.refusals.proofs.Tables.{never}
 use Rattle.refusals.proofs.Told.{same-refusal}
-use Rattle.registers.specs.Check.{checkSays}
+use Rattle.registers.specs.Load.{loadTable, loadTold}
+use Rattle.registers.specs.Setting.{settingOf}
+use Rattle.registers.specs.Check.{checkSays, settingTable, checkTold}
+use Rattle.registers.specs.Sound.{soundTable, soundTold}
+use Rattle.registers.specs.declared.record.Registers.{Registers}
 use Rattle.registers.specs.declared.check.Checked.{Checked}
 use Rattle.registers.specs.declared.check.Checked.the-variants.{Accepted, Refused}
 
+pub load-told : (words : List ℕ) → loadTold words ≡ judged (loadTable words) tt
+unfolding loadTold
+load-told words = refl
+
+module _ (g : Registers) where
+  pub check-told : checkTold g ≡ judged (settingTable g) (settingOf g)
+  unfolding checkTold
+  check-told = refl
+
+  pub sound-told : soundTold g ≡ judged (soundTable g) tt
+  unfolding soundTold
+  sound-told = refl
+
+-- two answers that tell the same are the same
 pub same-checked : (x y : Checked) → checkSays x ≡ checkSays y → x ≡ y
 same-checked (Accepted s) (Accepted t) e = ap Accepted (let q : s ≡ t = cc in q)
 same-checked (Accepted s) (Refused q) e = never e

@@ -1,4 +1,4 @@
--- For each public call, any two answers that its contract permits are the same.
+-- For each public call, any two answers that its contract permits are the same: each contract is an equation of the answer, or of what it tells.
 use mathlib.Core.Path.{_≡_, sym, _∙_}
 use Rattle.buffers.proofs.Coincide.{OneAnswer}
 use Rattle.registers.specs.declared.record.Loaded.{Loaded}
@@ -16,6 +16,8 @@ use Rattle.registers.proofs.record.is_reserved.Kinds as is-reserved-kin
 use Rattle.registers.proofs.record.is_reserved.Reads as is-reserved-reads
 use Rattle.registers.proofs.record.Registers.addresses.Kinds as addresses-kinds
 use Rattle.registers.proofs.record.Registers.addresses.Reads as addresses-reads
+use Rattle.registers.proofs.record.Registers.of_slots.Kinds as of-slots-kinds
+use Rattle.registers.proofs.record.Registers.of_slots.Reads as of-slots-reads
 use Rattle.registers.proofs.record.Registers.new.Kinds as new-kinds
 use Rattle.registers.proofs.record.Registers.new.Reads as new-reads
 use Rattle.registers.proofs.record.Registers.store.Kinds as store-kinds
@@ -79,6 +81,9 @@ one-is-reserved κs a x y s t p q = p ∙ sym q
 
 pub one-addresses : OneAnswer 0 addresses-kinds.ps addresses-kinds.r addresses-reads.Post
 one-addresses κs a x y s t p q = p ∙ sym q
+
+pub one-of-slots : OneAnswer 0 of-slots-kinds.ps of-slots-kinds.r of-slots-reads.Post
+one-of-slots κs a x y s t p q = p ∙ sym q
 
 pub one-new : OneAnswer 0 new-kinds.ps new-kinds.r new-reads.Post
 one-new κs a x y s t p q = p ∙ sym q

@@ -7,7 +7,8 @@ use native.Mathlib.Nat.{mul-assoc, mul-comm, mul-le-mul}
 use native.Mathlib.Omega.{arith}
 use Rattle.registers.specs.Setting.{displayOn, rasterWords, videoWords, cursorWords}
 use Rattle.registers.specs.declared.setting.Setting.{Setting}
-use Rattle.registers.proofs.Accepted.{Depth, Accepted, video-off, video-on, cursor-off, cursor-words}
+use Rattle.registers.specs.inner.Accepted.{Depth, Accepted}
+use Rattle.registers.proofs.Accepted.{video-off, video-on, cursor-off, cursor-words}
 
 pub depth-least : {d : ℕ} → Depth d → 0 < d
 depth-least h = ⊎-elim (λ e. omega arith) (⊎-elim (λ e. omega arith) (⊎-elim (λ e. omega arith) (λ e. omega arith))) h

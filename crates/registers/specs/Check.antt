@@ -1,11 +1,12 @@
 -- The setting's rules, 3 to 9 of the table, in the paper's words and order.
-use Prim.Native.Nat.{ℕ, _*_, _-_, _/_, _%_}
+use Prim.Native.Nat.{ℕ, _*_, _-_, _%_}
 use mathlib.Core.Bool.{Bool, _&&_, _||_, not}
 use mathlib.Core.List.{List, [], _∷_}
 use lib.Dec.{ltb, leb, eqb}
 use Rattle.refusals.specs.Table.{Told, given, Row, row, judged}
 use Rattle.refusals.specs.Refusals.{refusal}
-use Rattle.registers.specs.Geometry.{control, subPosition}
+use Rattle.registers.specs.Control.{testMode, interlaced}
+use Rattle.registers.specs.Geometry.{subPosition}
 use Rattle.registers.specs.Setting.{settingOf, displayOn, borderOn}
 use Rattle.registers.specs.Lowest.{lowest, faultAt}
 use Rattle.registers.specs.declared.record.Registers.{Registers}
@@ -13,14 +14,6 @@ use Rattle.registers.specs.declared.setting.Setting.{Setting}
 use Rattle.registers.specs.declared.lowest.Fault.the-variants.{Unwritten}
 use Rattle.registers.specs.declared.check.Checked.{Checked}
 use Rattle.registers.specs.declared.check.Checked.the-variants.{Accepted, Refused}
-
--- Control bit 14 or 15 set.
-abbrev pub testMode : Registers → Bool
-testMode g = not (eqb (control g / 0x4000 % 4) 0)
-
--- Control bit 6 set.
-abbrev pub interlaced : Registers → Bool
-interlaced g = not (eqb (control g / 0x40 % 2) 0)
 
 -- HS ≤ BS ≤ DS < DE ≤ BE ≤ N.
 abbrev pub horizontalRule : Setting → Bool

@@ -1,6 +1,9 @@
+pub mod Addresses
 pub mod Record
-pub mod Load
+pub mod Units
+pub mod Control
 pub mod Geometry
+pub mod Load
 pub mod Setting
 pub mod Needed
 pub mod Stereo
@@ -10,3 +13,4 @@ pub mod Colours
 pub mod Sound
 pub mod Rules
 pub mod Small
+pub mod inner

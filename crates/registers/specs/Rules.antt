@@ -1,10 +1,11 @@
 -- Every rule of a setting as a plain fact, in the paper's words. A record is accepted exactly when they all hold.
-use Prim.Native.Nat.{ℕ, _*_, _-_, _/_, _%_, _<_, _≤_}
+use Prim.Native.Nat.{ℕ, _*_, _-_, _%_, _<_, _≤_}
 use mathlib.Core.Path.{_≡_}
 use mathlib.Core.Bool.{true, false}
 use mathlib.Core.Logic.{_⊎_}
-use lib.ListN.{getD}
-use Rattle.registers.specs.Geometry.{control, subPosition}
+use Rattle.registers.specs.Control.{control, interlaceField, testField}
+use Rattle.registers.specs.Geometry.{subPosition}
+use Rattle.registers.specs.Record.{writtenIn}
 use Rattle.registers.specs.Setting.{settingOf}
 use Rattle.registers.specs.Needed.{needed}
 use Rattle.registers.specs.declared.record.Registers.{Registers}
@@ -38,10 +39,10 @@ Vertical s = (s .vs .0 ≤ s .v .0) × (Displayed s ⊎ ((s .vde .0 ≤ s .vds .
 
 pub record EveryRule (g : Registers) : Type 0 where
   -- 3: every needed register is written
-  pub written : (slot : ℕ) → slot < 64 → needed g slot ≡ true → getD (g .written) slot false ≡ true
+  pub written : (slot : ℕ) → slot < 64 → needed g slot ≡ true → writtenIn g slot ≡ true
   -- 4, 5: control bits 14 and 15 clear, and bit 6
-  pub test-mode : control g / 0x4000 % 4 ≡ 0
-  pub interlace : control g / 0x40 % 2 ≡ 0
+  pub test-mode : testField (control g) ≡ 0
+  pub interlace : interlaceField (control g) ≡ 0
   -- 6, 7
   pub horizontal : Horizontal (settingOf g)
   pub vertical : Vertical (settingOf g)

@@ -3,28 +3,30 @@ use Prim.Native.Nat.{ℕ, _*_, _-_, _/_}
 use mathlib.Core.Bool.{Bool}
 use lib.Dec.{ltb}
 use Rattle.buffers.specs.Pick.{pick}
-use Rattle.registers.specs.Geometry.{pixelsAt, rastersAt, depthOf, displayOffset, cursorStart, cursorOn}
+use Rattle.registers.specs.Addresses.{HCR, HSWR, HBSR, HDSR, HDER, HBER, VCR, VSWR, VBSR, VDSR, VDER, VBER, VCSR, VCER}
+use Rattle.registers.specs.Control.{depthOf, displayOffset}
+use Rattle.registers.specs.Geometry.{pixelsAt, rastersAt, cursorStart, cursorOn}
 use Rattle.registers.specs.declared.record.Registers.{Registers}
 use Rattle.registers.specs.declared.setting.Setting.{Setting}
 
 unfoldable pub settingOf : Registers → Setting
 settingOf g =
     record {
-      n = pixelsAt g 0x80 2;
-      hs = pixelsAt g 0x84 2;
-      bs = pixelsAt g 0x88 1;
-      ds = pixelsAt g 0x8C (displayOffset g);
-      de = pixelsAt g 0x90 (displayOffset g);
-      be = pixelsAt g 0x94 1;
+      n = pixelsAt g HCR 2;
+      hs = pixelsAt g HSWR 2;
+      bs = pixelsAt g HBSR 1;
+      ds = pixelsAt g HDSR (displayOffset g);
+      de = pixelsAt g HDER (displayOffset g);
+      be = pixelsAt g HBER 1;
       cx = cursorStart g;
-      v = rastersAt g 0xA0;
-      vs = rastersAt g 0xA4;
-      vbs = rastersAt g 0xA8;
-      vds = rastersAt g 0xAC;
-      vde = rastersAt g 0xB0;
-      vbe = rastersAt g 0xB4;
-      vcs = rastersAt g 0xB8;
-      vce = rastersAt g 0xBC;
+      v = rastersAt g VCR;
+      vs = rastersAt g VSWR;
+      vbs = rastersAt g VBSR;
+      vds = rastersAt g VDSR;
+      vde = rastersAt g VDER;
+      vbe = rastersAt g VBER;
+      vcs = rastersAt g VCSR;
+      vce = rastersAt g VCER;
       depth = depthOf g;
       cursor = cursorOn g;
     }

@@ -1,6 +1,7 @@
 -- The small plate's register words, as the paper lists them.
 use Prim.Native.Nat.{ℕ, _+_, _*_, _^_}
 use mathlib.Core.List.{List, [], _∷_, _++_}
+use Rattle.registers.specs.Addresses.{PALETTE, BORDER, HCR, HSWR, HBSR, HDSR, HDER, HBER, VCR, VSWR, VBSR, VDSR, VDER, VBER, CONTROL}
 use Rattle.registers.specs.Record.{fresh}
 use Rattle.registers.specs.Load.{applied}
 use Rattle.registers.specs.declared.record.Registers.{Registers}
@@ -13,21 +14,23 @@ abbrev pub timing : ℕ → ℕ → ℕ
 timing address v = wordOf address (v * 2 ^ 14)
 
 -- Palette entry i = i.
+abbrev pub entryWord : ℕ → ℕ
+entryWord i = wordOf (PALETTE i) i
+
 abbrev pub smallPalette : List ℕ
 smallPalette =
-    wordOf 0x00 0 ∷ wordOf 0x04 1 ∷ wordOf 0x08 2 ∷ wordOf 0x0C 3 ∷ wordOf 0x10 4 ∷ wordOf 0x14 5 ∷ wordOf 0x18 6 ∷ wordOf 0x1C 7
-    ∷ wordOf 0x20 8 ∷ wordOf 0x24 9 ∷ wordOf 0x28 10 ∷ wordOf 0x2C 11 ∷ wordOf 0x30 12 ∷ wordOf 0x34 13 ∷ wordOf 0x38 14
-    ∷ wordOf 0x3C 15 ∷ []
+    entryWord 0 ∷ entryWord 1 ∷ entryWord 2 ∷ entryWord 3 ∷ entryWord 4 ∷ entryWord 5 ∷ entryWord 6 ∷ entryWord 7
+    ∷ entryWord 8 ∷ entryWord 9 ∷ entryWord 10 ∷ entryWord 11 ∷ entryWord 12 ∷ entryWord 13 ∷ entryWord 14 ∷ entryWord 15 ∷ []
 
--- HCR 15, HSWR 1, HBSR 3, HDSR 2, HDER 6, HBER 11; VCR 5, VSWR 0, VBSR 1, VDSR 2, VDER 3, VBER 4.
+-- The horizontal and vertical values.
 abbrev pub smallTimings : List ℕ
 smallTimings =
-    timing 0x80 15 ∷ timing 0x84 1 ∷ timing 0x88 3 ∷ timing 0x8C 2 ∷ timing 0x90 6 ∷ timing 0x94 11
-    ∷ timing 0xA0 5 ∷ timing 0xA4 0 ∷ timing 0xA8 1 ∷ timing 0xAC 2 ∷ timing 0xB0 3 ∷ timing 0xB4 4 ∷ []
+    timing HCR 15 ∷ timing HSWR 1 ∷ timing HBSR 3 ∷ timing HDSR 2 ∷ timing HDER 6 ∷ timing HBER 11
+    ∷ timing VCR 5 ∷ timing VSWR 0 ∷ timing VBSR 1 ∷ timing VDSR 2 ∷ timing VDER 3 ∷ timing VBER 4 ∷ []
 
 -- Depth 4, 24 MHz; border F00H.
 abbrev pub smallWords : List ℕ
-smallWords = wordOf 0xE0 0xB ∷ (smallTimings ++ wordOf 0x40 0xF00 ∷ smallPalette)
+smallWords = wordOf CONTROL 0xB ∷ (smallTimings ++ wordOf BORDER 0xF00 ∷ smallPalette)
 
 abbrev pub smallRegisters : Registers
 smallRegisters = applied fresh smallWords

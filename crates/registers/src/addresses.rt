@@ -1,7 +1,7 @@
 // The registers' addresses, and the limits of a list and of a record.
 use crate::record::Registers;
 ghost use mathlib.Core.Path.{_≡_};
-ghost use Rattle.registers.specs.Record.{addresses};
+ghost use Rattle.registers.specs.Addresses.{addresses};
 
 impl Registers {
     // The most words that one list may have.

@@ -1,12 +1,13 @@
 // Judging a setting: refusals 3 to 9 in ascending order, or the accepted setting.
 use crate::lowest::Fault;
 use crate::lowest::lowest;
-use crate::numbers::odd_bits;
 use crate::record::Registers;
+use crate::setting::Setting;
+use crate::units::Pixels;
 use refusals::Answer;
 use refusals::Refusal;
-use crate::setting::Setting;
 ghost use mathlib.Core.Path.{_≡_};
+ghost use Prim.Native.Nat.{_*_, _%_};
 ghost use Rattle.buffers.specs.Pick.{pick};
 ghost use Rattle.refusals.specs.Table.{judged};
 ghost use Rattle.refusals.specs.Refusals.{refusal, answerSays};
@@ -18,8 +19,6 @@ ghost use Rattle.registers.specs.Check.{
   verticalRule,
   widthRule,
   cursorRule,
-  testMode,
-  interlaced,
   settingTable,
   checkTold,
 };
@@ -38,6 +37,13 @@ fn refused_if(wrong: bool, why: Refusal, rest: Answer) -> Answer
         return Answer::Refused(why);
     }
     rest
+}
+
+// The bits by which a raster of some width passes whole words.
+fn odd_bits(width: Pixels, bits: u8) -> u32
+    ensures { λ r. ⌜ r ≡ width .0 * bits % 32 ⌝ }
+{
+    (width.0 as u32) * (bits as u32) % 32
 }
 
 impl Setting {
@@ -91,18 +97,6 @@ impl Registers {
         ensures { λ r. ⌜ r ≡ cursorRule self s ⌝ }
     {
         !s.cursor | ((self.sub_position() == 0) & (s.vce.0 <= s.v.0))
-    }
-
-    fn is_test_mode(self) -> bool
-        ensures { λ r. ⌜ r ≡ testMode self ⌝ }
-    {
-        self.control() / 0x4000 % 4 != 0
-    }
-
-    fn is_interlaced(self) -> bool
-        ensures { λ r. ⌜ r ≡ interlaced self ⌝ }
-    {
-        self.control() / 0x40 % 2 != 0
     }
 
     // The first refusal of 3 to 9, for the record and its setting. The rows are joined from the last to the first.

@@ -1,11 +1,11 @@
 // Needed registers, group by group: the lowest that is unwritten.
-use crate::numbers::least;
 use crate::record::Registers;
 ghost use mathlib.Core.Path.{_≡_};
-ghost use Prim.Native.Nat.{_<_, _≤_};
+ghost use Prim.Native.Nat.{_<_, _≤_, min};
 ghost use Rattle.buffers.specs.Pick.{pick};
 ghost use Rattle.registers.specs.Lowest.{lowest};
-ghost use Rattle.registers.specs.Needed.{unwrittenAmong, missingFor, missing};
+ghost use Rattle.registers.specs.Needed.{missing};
+ghost use Rattle.registers.specs.inner.Groups.{unwrittenAmong, missingFor};
 
 // The lowest unwritten slot from that of the first address to that of the last, or 64.
 pub fn lowest_unwritten(written: &[bool; 64], first: usize, last: usize) -> usize
@@ -20,6 +20,16 @@ pub fn lowest_unwritten(written: &[bool; 64], first: usize, last: usize) -> usiz
         slot += 1;
     }
     Registers::SLOTS
+}
+
+// The lower of two slots.
+pub fn least(a: usize, b: usize) -> usize
+    ensures { λ r. ⌜ r ≡ min a b ⌝ }
+{
+    if a < b {
+        return a;
+    }
+    b
 }
 
 // One slot, where it is at fault, or 64.

@@ -4,7 +4,7 @@ use refusals::Refusal;
 ghost use mathlib.Core.Path.{_≡_};
 ghost use Rattle.refusals.specs.Table.{unlessRefused};
 ghost use Rattle.refusals.specs.Refusals.{answerSays};
-ghost use Rattle.registers.specs.Record.{fresh, storedOf, wordTold, reserved};
+ghost use Rattle.registers.specs.Record.{registersBy, fresh, storedOf, wordTold, reserved};
 
 pub struct Registers {
     pub values: [u32; 64],
@@ -29,14 +29,21 @@ pub fn is_reserved(slot: u32) -> bool
 }
 
 impl Registers {
+    // The record of what each slot holds, and whether it was written.
+    pub fn of_slots(values: [u32; 64], written: [bool; 64]) -> Registers
+        ensures { λ r. ⌜ r ≡ registersBy values written ⌝ }
+    {
+        Registers {
+            values: values,
+            written: written,
+        }
+    }
+
     // A fresh record: nothing is written.
     pub fn new() -> Registers
         ensures { λ r. ⌜ r ≡ fresh ⌝ }
     {
-        Registers {
-            values: [0u32; 64],
-            written: [false; 64],
-        }
+        Self::of_slots([0u32; 64], [false; 64])
     }
 
     // One word stored: the record with that register changed, or as it came where the address is reserved.

@@ -6,24 +6,9 @@ use refusals::Answer;
 use refusals::Refusal;
 ghost use mathlib.Core.Path.{_≡_};
 ghost use Rattle.refusals.specs.Refusals.{answerSays};
-ghost use Rattle.registers.specs.Stereo.{stereoOf, frequencyOf};
 ghost use Rattle.registers.specs.Sound.{soundTold};
 
 impl Registers {
-    // The stereo value of a channel, modulo 8: 60H is channel 7's, 64H to 7CH are those of 0 to 6.
-    pub fn stereo(self, channel: u8) -> u8
-        ensures { λ r. ⌜ r ≡ stereoOf self channel ⌝ }
-    {
-        let slot = Self::STEREO_7 / 4 + (channel as usize + 1) % 8;
-        (self.values[slot] % 8) as u8
-    }
-
-    pub fn sound_frequency(self) -> u8
-        ensures { λ r. ⌜ r ≡ frequencyOf self ⌝ }
-    {
-        (self.values[Self::SOUND_FREQUENCY / 4] % 256) as u8
-    }
-
     // Whether sound may be played: 3 or 10 with the lowest address, else done.
     pub fn check_sound(self) -> Answer
         ensures { λ r. ⌜ answerSays r ≡ soundTold self ⌝ }

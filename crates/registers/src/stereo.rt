@@ -1,11 +1,28 @@
-// What sound needs of a record: the lowest slot that is unwritten, and the lowest that is wrong.
+// Stereo values and the sound frequency; of what sound needs, the lowest slot that is unwritten, and the lowest that is wrong.
+use crate::needed::least;
 use crate::needed::lowest_unwritten;
 use crate::needed::slot_if;
-use crate::numbers::least;
 use crate::record::Registers;
 ghost use mathlib.Core.Path.{_≡_};
 ghost use Rattle.registers.specs.Lowest.{lowest};
-ghost use Rattle.registers.specs.Stereo.{soundMissing, zeroStereo, soundWrong};
+ghost use Rattle.registers.specs.Stereo.{stereoOf, frequencyOf, soundMissing, soundWrong};
+ghost use Rattle.registers.specs.inner.Groups.{zeroStereo};
+
+impl Registers {
+    // The stereo value of a channel, modulo 8: 60H is channel 7's, 64H to 7CH are those of 0 to 6.
+    pub fn stereo(self, channel: u8) -> u8
+        ensures { λ r. ⌜ r ≡ stereoOf self channel ⌝ }
+    {
+        let slot = Self::STEREO_7 / 4 + (channel as usize + 1) % 8;
+        (self.values[slot] % 8) as u8
+    }
+
+    pub fn sound_frequency(self) -> u8
+        ensures { λ r. ⌜ r ≡ frequencyOf self ⌝ }
+    {
+        (self.values[Self::SOUND_FREQUENCY / 4] % 256) as u8
+    }
+}
 
 // The lowest slot that sound needs and that is unwritten, or 64.
 pub fn lowest_sound_missing(g: Registers) -> usize

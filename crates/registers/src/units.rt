@@ -1,7 +1,7 @@
 // The data sheet's three counts, kept apart: pixel pairs, pixel positions and rasters.
 ghost use mathlib.Core.Path.{_≡_};
 ghost use Prim.Native.Nat.{_-_};
-ghost use Rattle.registers.specs.Geometry.{pixelsOf, rastersOf};
+ghost use Rattle.registers.specs.Units.{pixelsOf, rastersOf};
 
 // A horizontal register's value: ten bits that count pairs of pixels.
 pub struct Pairs(pub u16);

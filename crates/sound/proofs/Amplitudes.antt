@@ -7,7 +7,7 @@ use native.Mathlib.Omega.{arith}
 use lib.Dec.{eqb, leb, eqb→eq, leb→le}
 use lib.ListN.{getD}
 use Rattle.buffers.proofs.Table.{at}
-use Rattle.sound.specs.Amplitude.{amplitudeOf}
+use Rattle.sound.specs.Amplitude.{chordOf, amplitudeOf}
 
 abbrev pub amplitudes : List ℕ
 amplitudes =
@@ -31,7 +31,7 @@ small k x = leb x 3952
 pub amplitude-at : (byte : ℕ) → byte < 256 → getD amplitudes (byte / 2) 0 ≡ amplitudeOf byte
 unfolding amplitudeOf follows
 amplitude-at byte h =
-    let c : byte / 32 ≡ byte / 2 / 16 = omega arith in
+    let c : chordOf byte ≡ byte / 2 / 16 = omega arith in
     rw c (eqb→eq (getD amplitudes (byte / 2) 0) _ (at follows amplitudes tt (byte / 2) (omega arith)))
 
 pub amplitude-most : (byte : ℕ) → byte < 256 → amplitudeOf byte ≤ 3952

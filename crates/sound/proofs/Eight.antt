@@ -3,8 +3,8 @@ use mathlib.Core.Path.{_≡_, refl}
 use mathlib.Core.List.{List, [], _∷_}
 use Prim.Native.Nat.{ℕ, zero, suc, _<_, _≤_}
 use native.Mathlib.Omega.{arith}
-use Rattle.sound.specs.Sixths.{eight}
-use Rattle.sound.specs.Values.{channelOf, counterAfter, valuesOf, inTable, Sixths}
+use Rattle.sound.specs.Values.{channelOf, counterAfter, valuesOf}
+use Rattle.sound.specs.inner.Tables.{eight, inTable, Sixths}
 
 pub eight-at : (of : ℕ → ℕ) (channel : ℕ) → channel < 8 → inTable (eight of) channel ≡ of channel
 eight-at of zero h = refl

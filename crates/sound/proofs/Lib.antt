@@ -1,3 +1,4 @@
+pub mod Told
 pub mod Amplitudes
 pub mod Signed
 pub mod Turns

@@ -13,6 +13,7 @@ use Rattle.registers.specs.declared.record.Registers.{Registers}
 use Rattle.sound.specs.Sixths.{leftAt, rightAt}
 use Rattle.sound.specs.Values.{counterAfter, valuesOf}
 use Rattle.sound.specs.Play.{playTold, playedOf}
+use Rattle.sound.proofs.Accepted.{play-rows}
 use Rattle.sound.proofs.Places.{length-values}
 
 module _ (left right : ℕ → ℕ) where
@@ -43,5 +44,4 @@ module _ (g : Registers) where
 
   -- a record that sound accepts, and room for all
   pub playing : (words places : ℕ) → soundTold g ≡ given tt → 8 * words ≤ places → playTold g words places ≡ given tt
-  unfolding playTold
-  playing words places e h = rw (e, le-ltb places (8 * words) h)
+  playing words places e h = rw (play-rows g words places, e, le-ltb places (8 * words) h)

@@ -3,3 +3,4 @@ pub mod Sixths
 pub mod Values
 pub mod Play
 pub mod Pair
+pub mod inner

@@ -1,20 +1,23 @@
 -- The sound call: 3, 10, then 13; the values it writes, and the counter it answers.
 use Prim.Native.Nat.{ℕ, _*_}
-use mathlib.Core.List.{List, [], _∷_}
+use mathlib.Core.List.{List, [], _∷_, _++_}
 use lib.Dec.{ltb}
 use lib.IntN.{ℤ}
 use lib.ListN.{length}
 use lib.Seq.{sets}
 use Rattle.buffers.specs.Words.{bytesOf}
-use Rattle.refusals.specs.Table.{Told, row, judged, andThen, unlessRefused}
-use Rattle.registers.specs.Sound.{soundTold}
+use Rattle.refusals.specs.Table.{Told, Row, row, judged, unlessRefused}
+use Rattle.registers.specs.Sound.{soundTable}
 use Rattle.registers.specs.declared.record.Registers.{Registers}
 use Rattle.sound.specs.Sixths.{leftAt, rightAt}
 use Rattle.sound.specs.Values.{counterAfter, valuesOf}
 
 -- Some words to be played into some places: 8 values for each word.
+abbrev pub playTable : Registers → ℕ → ℕ → List Row
+playTable g words places = soundTable g ++ (row 13 (ltb places (8 * words)) 0 ∷ [])
+
 unfoldable pub playTold : Registers → ℕ → ℕ → Told (Unit {0})
-playTold g words places = andThen (soundTold g) (λ u. judged (row 13 (ltb places (8 * words)) 0 ∷ []) tt)
+playTold g words places = judged (playTable g words places) tt
 
 -- Bytes leave words low first.
 unfoldable pub playedOf : Registers → ℕ → List ℕ → List ℤ

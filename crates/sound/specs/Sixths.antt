@@ -1,6 +1,5 @@
 -- Stereo values 1 to 7 give left 6, 5, 4, 3, 2, 1, 0 sixths, right the rest.
 use Prim.Native.Nat.{ℕ, _-_}
-use mathlib.Core.List.{List, [], _∷_}
 use Rattle.registers.specs.Stereo.{stereoOf}
 use Rattle.registers.specs.declared.record.Registers.{Registers}
 
@@ -16,7 +15,3 @@ leftAt g channel = leftOf (stereoOf g channel)
 
 abbrev pub rightAt : Registers → ℕ → ℕ
 rightAt g channel = rightOf (stereoOf g channel)
-
--- A table of the eight channels.
-abbrev pub eight : (ℕ → ℕ) → List ℕ
-eight of = of 0 ∷ of 1 ∷ of 2 ∷ of 3 ∷ of 4 ∷ of 5 ∷ of 6 ∷ of 7 ∷ []

@@ -1,7 +1,6 @@
 -- Each byte writes left then right; the counter before a byte says its channel, and runs over from 4,294,967,295 to 0.
-use Prim.Native.Nat.{ℕ, _+_, _%_, _^_, _≤_}
+use Prim.Native.Nat.{ℕ, _+_, _%_, _^_}
 use mathlib.Core.List.{List, [], _∷_}
-use lib.ListN.{getD}
 use lib.IntN.{ℤ}
 use Rattle.sound.specs.Amplitude.{valueOf}
 
@@ -16,11 +15,3 @@ unfoldable pub valuesOf : (ℕ → ℕ) → (ℕ → ℕ) → ℕ → List ℕ �
 valuesOf left right counter [] = []
 valuesOf left right counter (byte ∷ bytes) =
     valueOf byte (left (channelOf counter)) ∷ valueOf byte (right (channelOf counter)) ∷ valuesOf left right (counterAfter counter 1) bytes
-
--- Sixths that stand in a table of the eight channels.
-abbrev pub inTable : List ℕ → ℕ → ℕ
-inTable table channel = getD table channel 0
-
--- Each entry is a stereo value's sixths or fewer.
-abbrev pub Sixths : List ℕ → Type 0
-Sixths table = (channel : ℕ) → inTable table channel ≤ 7

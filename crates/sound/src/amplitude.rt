@@ -1,7 +1,8 @@
 // A byte's amplitude, its sign, and its value in sixths.
 ghost use mathlib.Core.Path.{_≡_};
 ghost use Prim.Native.Nat.{_≤_};
-ghost use Rattle.sound.specs.Amplitude.{Amplitudes, amplitudeOf, signedOf, valueOf};
+ghost use Rattle.sound.specs.Amplitude.{amplitudeOf, signedOf, valueOf};
+ghost use Rattle.sound.specs.inner.Tables.{Amplitudes};
 
 // The amplitude of each byte, by its bits 7-1.
 const AMPLITUDES: [u16; 128] = [

@@ -5,9 +5,9 @@ mod values;
 
 use amplitude::amplitudes;
 use amplitude::value;
-use registers::record::Registers;
 use refusals::Answer;
 use refusals::Refusal;
+use registers::record::Registers;
 use sixths::left_of;
 use sixths::lefts;
 use sixths::right_of;

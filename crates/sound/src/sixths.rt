@@ -2,7 +2,8 @@
 use registers::record::Registers;
 ghost use mathlib.Core.Path.{_≡_};
 ghost use Prim.Native.Nat.{_≤_};
-ghost use Rattle.sound.specs.Sixths.{leftOf, rightOf, leftAt, rightAt, eight};
+ghost use Rattle.sound.specs.Sixths.{leftOf, rightOf, leftAt, rightAt};
+ghost use Rattle.sound.specs.inner.Tables.{eight};
 
 pub fn left_of(stereo: u8) -> u8
     requires { ⌜ stereo ≤ 7 ⌝ }

@@ -7,8 +7,8 @@ ghost use Prim.Native.Nat.{_+_, _*_, _≤_};
 ghost use lib.ListN.{length};
 ghost use lib.Seq.{sets};
 ghost use Rattle.buffers.specs.Words.{bytesOf};
-ghost use Rattle.sound.specs.Amplitude.{Amplitudes};
-ghost use Rattle.sound.specs.Values.{counterAfter, valuesOf, inTable, Sixths};
+ghost use Rattle.sound.specs.Values.{counterAfter, valuesOf};
+ghost use Rattle.sound.specs.inner.Tables.{Amplitudes, inTable, Sixths};
 
 // The counter some bytes later: it runs over from 4,294,967,295 to 0.
 fn advanced(counter: u32, bytes: u32) -> u32

@@ -12,6 +12,7 @@ use borrow.Author.Tests.{ltb-false}
 use Rattle.buffers.proofs.Paints.{Paints}
 use Rattle.buffers.proofs.Tests.{no}
 use Rattle.refusals.specs.Table.{why, Told, given, refused, row, judged, andThen}
+use Rattle.registers.specs.Record.{registersBy}
 use Rattle.registers.specs.declared.record.Registers.{Registers}
 use Rattle.refusals.proofs.Tables.{never}
 use Rattle.vombelishi.specs.Record.{isSet, recordOf, lacking, recordTold}
@@ -42,7 +43,7 @@ whole d l m t f n p e h =
 module _ (values written : List ℕ) where
   pub record-made : (ns ms : List ℕ) (fs gs : List Bool) → 64 ≤ length values → 64 ≤ length written
       → length ns ≡ 64 → length fs ≡ 64 → Paints 0 ns ms 0 64 (valueAt values) → Paints false fs gs 0 64 (flagAt written)
-      → _≡_ {A = Registers} (record { values = ms; written = gs }) (recordOf values written)
+      → registersBy ms gs ≡ recordOf values written
   unfolding recordOf
   record-made ns ms fs gs a b n f p q =
       let e : ms ≡ take 64 values = whole 0 ns ms (take 64 values) (valueAt values) n p (length-take-le 64 values a) (λ k h. getD-take 64 values k 0 h) in

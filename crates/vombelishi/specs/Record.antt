@@ -5,13 +5,14 @@ use mathlib.Core.List.{List, [], _∷_, map}
 use lib.Dec.{ltb, eqb}
 use lib.ListN.{length, take}
 use Rattle.refusals.specs.Table.{Told, given, refused, row, judged}
+use Rattle.registers.specs.Record.{registersBy}
 use Rattle.registers.specs.declared.record.Registers.{Registers}
 
 abbrev pub isSet : ℕ → Bool
 isSet byte = not (eqb byte 0)
 
 unfoldable pub recordOf : List ℕ → List ℕ → Registers
-recordOf values written = record { values = take 64 values; written = map isSet (take 64 written) }
+recordOf values written = registersBy (take 64 values) (map isSet (take 64 written))
 
 -- A list shorter than 64 is no record.
 abbrev pub lacking : List ℕ → List ℕ → Bool

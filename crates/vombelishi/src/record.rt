@@ -24,8 +24,5 @@ pub fn record_of(values: &[u32], written: &[u8]) -> Registers
         flags[k] = written[k] != 0;
         k += 1;
     }
-    Registers {
-        values: numbers,
-        written: flags,
-    }
+    Registers::of_slots(numbers, flags)
 }

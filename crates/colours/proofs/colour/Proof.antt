@@ -1,3 +1,4 @@
+-- A pixel's colour is what its palette entry shows for it.
 use borrow.Author.Needs.{needs}
 use Rattle.colours.proofs.colour.Statement.{statement}
 use Rattle.colours.proofs.colour.Tie as tie

@@ -1,3 +1,4 @@
+-- The sixteen entries, stored one after another: after k turns the first k stand in the list.
 use Prim.Native.Nat.{ℕ, _-_, _≤_}
 use mathlib.Core.Path.{_≡_}
 use native.Mathlib.Omega.{arith}

@@ -1,3 +1,4 @@
+-- The pin's level, by the composite bit: each branch is one of the two tests.
 use borrow.Author.Tests.{eq-eqb, ne-eqb}
 use borrow.Author.Needs.{needs}
 use Rattle.colours.proofs.pin.Statement.{statement}

@@ -1,3 +1,4 @@
+-- What an entry shows, by depth: mixed with the pixel at 8, whole at any other.
 use borrow.Author.Tests.{eq-eqb, ne-eqb}
 use borrow.Author.Needs.{needs}
 use Rattle.colours.proofs.shown.Statement.{statement}

@@ -1,3 +1,4 @@
+-- All bytes are stored where they fit, else none.
 use Rattle.pictures.proofs.Stored.{no-room, put-guns}
 use Rattle.buffers.proofs.Puts.{put-nothing}
 use native.Mathlib.Omega.{arith}

@@ -1,3 +1,4 @@
+-- Three bytes a cell, a cell a turn: what is stored and what the rest will store make the whole.
 use borrow.Author.Needs.{needs}
 use Prim.Native.Nat.{_-_, _*_, _≤_}
 use mathlib.Core.Path.{_≡_, refl, sym, _∙_}
@@ -65,13 +66,25 @@ loop-less : tie.Need-loop-less Inv-loop μ-loop
 loop-less c = search needs
 
 loop-again : tie.Need-loop-again Inv-loop μ-loop
-loop-again c = let l = c .before .before .before .before .before .loop in (omega arith, simp length-set (l .inv .1), guns-turn (l .out) (c .before .before .before .before .before .before .before .before .args .cells .now) (l .k) _ _ _ (omega arith) (c .before .before .red-of .ensures) (c .before .green-of .ensures) (c .blue-of .ensures) ∙ l .inv .2)
+loop-again c =
+    let at-red-of = c .before .before in
+    let at-loop = at-red-of .before .before .before in
+    let args = at-loop .before .before .before .args in
+    let l = at-loop .loop in (
+      omega arith,
+      simp length-set (l .inv .1),
+      guns-turn (l .out) (args .cells .now) (l .k) _ _ _ (omega arith) (at-red-of .red-of .ensures) (c .before .green-of .ensures)
+          (c .blue-of .ensures) ∙ l .inv .2,
+    )
 
 same-length : tie.Need-same-length Inv-loop μ-loop
 same-length c = search needs
 
 returns : tie.Need-returns Inv-loop μ-loop
-returns c = let l = c .before .loop in sym (guns-done (l .out) (c .before .before .before .before .args .cells .now) (3 * l .k) (l .k) (omega arith)) ∙ l .inv .2
+returns c =
+    let args = c .before .before .before .before .args in
+    let l = c .before .loop in
+    sym (guns-done (l .out) (args .cells .now) (3 * l .k) (l .k) (omega arith)) ∙ l .inv .2
 
 pub put-cells-spec : {M : Type 1} → statement M
 put-cells-spec =

@@ -1,3 +1,4 @@
+-- Copying out refuses as reading does, then for memory that is too short; else all words are stored.
 use Rattle.plates.proofs.Calls.{copy-fits, copy-short, copy-done, copy-refused}
 use Rattle.plates.specs.Read.{readSays}
 use mathlib.Core.Path.{ap, sym, _∙_}
@@ -18,19 +19,38 @@ cast-count : tie.Need-cast-count
 cast-count c = search needs
 
 returns : tie.Need-returns
-returns c = copy-short (c .before .before .before .before .before .before .before .before .args .file .now) _ (ap readSays (sym (c .before .before .before .sections .given .1)) ∙ c .before .before .before .before .before .read .ensures) (c .before .before .before .before .before .before .before .before .args .out .now) _ (c .if1 .taken)
+returns c =
+    let at-sections = c .before .before .before in
+    let at-read = at-sections .before .before in
+    let args = at-read .before .before .before .args in
+    copy-short (args .file .now) _ (ap readSays (sym (at-sections .sections .given .1)) ∙ at-read .read .ensures) (args .out .now) _
+    (c .if1 .taken)
 
 copy-words-requires : tie.Need-copy-words-requires
-copy-words-requires c κs = (copy-fits (c .before .before .before .before .before .before .before .before .before .args .file .now) _ (ap readSays (sym (c .before .before .before .before .sections .given .1)) ∙ c .before .before .before .before .before .before .read .ensures), search needs)
+copy-words-requires c κs =
+    let at-sections = c .before .before .before .before in
+    let at-read = at-sections .before .before in
+    let args = at-read .before .before .before .args in
+    (copy-fits (args .file .now) _ (ap readSays (sym (at-sections .sections .given .1)) ∙ at-read .read .ensures), search needs)
 
 returns-2 : tie.Need-returns-2
-returns-2 c = copy-refused (c .before .before .before .before .before .before .args .file .now) _ (c .before .before .before .before .before .before .args .out .now) _ (ap readSays (sym (c .before .why .given .1)) ∙ c .before .before .before .read .ensures)
+returns-2 c =
+    let args = c .before .before .before .before .before .before .args in
+    let read = c .before .before .before .read in
+    copy-refused (args .file .now) _ (args .out .now) _ (ap readSays (sym (c .before .why .given .1)) ∙ read .ensures)
 
 same-length : tie.Need-same-length
 same-length c = search needs
 
 returns-3 : tie.Need-returns-3
-returns-3 c = copy-done (c .before .before .before .before .before .before .before .before .before .before .before .before .args .file .now) _ (ap readSays (sym (c .before .before .before .before .before .before .before .sections .given .1)) ∙ c .before .before .before .before .before .before .before .before .before .read .ensures) (c .before .before .before .before .before .before .before .before .before .before .before .before .args .out .now) _ (c .before .before .before .before .if1 .left) (c .before .before .copy-words .ensures)
+returns-3 c =
+    let at-copy-words = c .before .before in
+    let at-if1 = at-copy-words .before .before in
+    let at-sections = at-if1 .before .before .before in
+    let at-read = at-sections .before .before in
+    let args = at-read .before .before .before .args in
+    copy-done (args .file .now) _ (ap readSays (sym (at-sections .sections .given .1)) ∙ at-read .read .ensures) (args .out .now) _
+    (at-if1 .if1 .left) (at-copy-words .copy-words .ensures)
 
 pub copy-out-spec : {M : Type 1} → statement M
 copy-out-spec =

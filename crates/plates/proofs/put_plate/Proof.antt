@@ -1,3 +1,4 @@
+-- A plate is stored section by section, each where those before it end, the trailer last.
 use mathlib.Core.Path.{refl}
 use Rattle.plates.proofs.Plates.{plate-put}
 use native.Mathlib.Omega.{arith}
@@ -69,18 +70,16 @@ same-length : tie.Need-same-length
 same-length c = search needs
 
 returns : tie.Need-returns
-returns c = let a = c .before .before .before .before .before .before .before .before .before .before .before .before .before .before .before .before .before .before .before .before .before .before .before .before .before .before .args in
+returns c =
+    let at-put-words5 = c .before .before in
+    let at-put-words4 = at-put-words5 .before .before .before .before .before in
+    let at-put-words3 = at-put-words4 .before .before .before .before in
+    let at-put-words2 = at-put-words3 .before .before .before .before in
+    let at-put-words = at-put-words2 .before .before .before .before in
+    let a = at-put-words .before .before .before .before .before .before .before .args in
     plate-put (a .registers .now) (a .video .now) (a .cursor .now) (a .sound .now) (a .out .now) _ _ _ _ _ _ _ _ _ _
-    (c .before .before .before .before .before .before .before .before .before .before .before .before .before .before .before .before .before .before .before .put-words .ensures)
-    (c .before .before .before .before .before .before .before .before .before .before .before .before .before .before .before .put-words2 .ensures)
-    (c .before .before .before .before .before .before .before .before .before .before .before .put-words3 .ensures)
-    (c .before .before .before .before .before .before .before .put-words4 .ensures)
-    (c .before .before .put-words5 .ensures)
-    (omega arith)
-    (omega arith)
-    (omega arith)
-    (omega arith)
-    refl
+    (at-put-words .put-words .ensures) (at-put-words2 .put-words2 .ensures) (at-put-words3 .put-words3 .ensures)
+    (at-put-words4 .put-words4 .ensures) (at-put-words5 .put-words5 .ensures) (omega arith) (omega arith) (omega arith) (omega arith) refl
 
 pub put-plate-spec : {M : Type 1} → statement M
 put-plate-spec =

@@ -1,3 +1,4 @@
+-- A file is read by its length, then by its trailer.
 use Rattle.plates.proofs.Calls.{read-right, read-wrong}
 use Rattle.buffers.proofs.Tests.{and-split}
 use borrow.Author.Tests.{leb-true}

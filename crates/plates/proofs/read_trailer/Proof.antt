@@ -1,3 +1,4 @@
+-- A trailer's four words, read from the file's end, and its rule; a right one's sections lie in the file.
 use Rattle.plates.proofs.Rule.{ordered}
 use Rattle.refusals.specs.Table.{given}
 use mathlib.Core.Path.{ap}
@@ -40,14 +41,28 @@ add-if1 : tie.Need-add-if1
 add-if1 c = search needs
 
 starts-requires : tie.Need-starts-requires
-starts-requires c κs = let o = ordered _ (c .before .before .before .before .word-at .result) (c .before .before .before .word-at2 .result) (c .before .before .word-at3 .result) (c .before .word-at4 .result) (c .if1 .taken) in
+starts-requires c κs =
+    let word-at = c .before .before .before .before .word-at in
+    let word-at2 = c .before .before .before .word-at2 in
+    let word-at3 = c .before .before .word-at3 in
+    let o = ordered _ (word-at .result) (word-at2 .result) (word-at3 .result) (c .before .word-at4 .result) (c .if1 .taken) in
     (o .v-r, omega (arith, o .v-r, o .c-v), omega (arith, o .v-r, o .c-v, o .s-c))
 
 returns : tie.Need-returns
-returns c = simp (← c .before .before .before .before .before .word-at .ensures, ← c .before .before .before .before .word-at2 .ensures, ← c .before .before .before .word-at3 .ensures, ← c .before .before .word-at4 .ensures, c .before .if1 .taken) (ap given (c .starts .ensures))
+returns c =
+    let word-at = c .before .before .before .before .before .word-at in
+    let word-at2 = c .before .before .before .before .word-at2 in
+    let word-at3 = c .before .before .before .word-at3 in
+    let word-at4 = c .before .before .word-at4 in
+    simp (← word-at .ensures, ← word-at2 .ensures, ← word-at3 .ensures, ← word-at4 .ensures, c .before .if1 .taken)
+    (ap given (c .starts .ensures))
 
 returns-2 : tie.Need-returns-2
-returns-2 c = simp (← c .before .before .before .before .word-at .ensures, ← c .before .before .before .word-at2 .ensures, ← c .before .before .word-at3 .ensures, ← c .before .word-at4 .ensures, c .if1 .left)
+returns-2 c =
+    let word-at = c .before .before .before .before .word-at in
+    let word-at2 = c .before .before .before .word-at2 in
+    let word-at3 = c .before .before .word-at3 in
+    simp (← word-at .ensures, ← word-at2 .ensures, ← word-at3 .ensures, ← c .before .word-at4 .ensures, c .if1 .left)
 
 pub read-trailer-spec : {M : Type 1} → statement M
 read-trailer-spec =

@@ -1,3 +1,4 @@
+-- Writing refuses a plate that is too large, then memory that is too short; else the plate is stored. Each return is one row of its table.
 use Rattle.plates.proofs.Plates.{write-large, write-short, write-done}
 use borrow.Author.Needs.{needs}
 use Rattle.plates.proofs.write.Statement.{statement}
@@ -42,8 +43,13 @@ same-length : tie.Need-same-length
 same-length c = search needs
 
 returns-3 : tie.Need-returns-3
-returns-3 c = let a = c .before .before .before .before .before .before .before .before .before .before .before .args in
-    write-done (a .registers .now) (a .video .now) (a .cursor .now) (a .sound .now) (a .out .now) _ (c .before .before .before .before .before .if1 .left) (c .before .before .before .before .if2 .left) (c .before .before .put-plate .ensures)
+returns-3 c =
+    let at-put-plate = c .before .before in
+    let at-if2 = at-put-plate .before .before in
+    let at-if1 = at-if2 .before in
+    let a = at-if1 .before .before .before .before .before .before .args in
+    write-done (a .registers .now) (a .video .now) (a .cursor .now) (a .sound .now) (a .out .now) _ (at-if1 .if1 .left) (at-if2 .if2 .left)
+    (at-put-plate .put-plate .ensures)
 
 pub write-spec : {M : Type 1} → statement M
 write-spec =

@@ -1,3 +1,4 @@
+-- One byte's pair: refused for a stereo value 0, else both sides' values, which fit 16 bits.
 use Rattle.sound.proofs.Signed.{stored}
 use Rattle.sound.specs.Pair.{pairTold}
 use Rattle.sound.specs.Sixths.{leftOf, rightOf}
@@ -30,12 +31,19 @@ value-requires-2 c κs = search needs
 
 returns-2 : tie.Need-returns-2
 unfolding pairTold
-returns-2 c = let a = c .before .before .before .before .before .before .before .before .args in
+returns-2 c =
+    let at-right-of = c .before .before in
+    let at-value = at-right-of .before in
+    let at-left-of = at-value .before .before in
+    let at-if1 = at-left-of .before .before in
+    let a = at-if1 .before .args in
     let s = a .stereo % 8 in
     rw (
-      ne-eqb s 0 (c .before .before .before .before .before .before .before .if1 .left),
-      stored (a .byte) (leftOf s) _ (search needs) (search needs) (c .before .before .before .value .ensures ∙ ap (valueOf (a .byte)) (c .before .before .before .before .before .left-of .ensures)),
-      stored (a .byte) (rightOf s) _ (search needs) (search needs) (c .value2 .ensures ∙ ap (valueOf (a .byte)) (c .before .before .right-of .ensures)),
+      ne-eqb s 0 (at-if1 .if1 .left),
+      stored (a .byte) (leftOf s) _ (search needs) (search needs)
+          (at-value .value .ensures ∙ ap (valueOf (a .byte)) (at-left-of .left-of .ensures)),
+      stored (a .byte) (rightOf s) _ (search needs) (search needs)
+          (c .value2 .ensures ∙ ap (valueOf (a .byte)) (at-right-of .right-of .ensures)),
     )
 
 pub pair-spec : {M : Type 1} → statement M

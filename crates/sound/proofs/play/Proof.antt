@@ -1,3 +1,4 @@
+-- The sound call, by what the check of its record tells: refused as it is, or short of room, or all values stored.
 use Rattle.sound.proofs.Calls.{play-refused, play-short, play-done}
 use Rattle.sound.proofs.Eight.{eight-most}
 use Rattle.sound.specs.Sixths.{leftAt, rightAt}
@@ -18,7 +19,11 @@ enum-told : tie.Need-enum-told
 enum-told c = search needs
 
 returns : tie.Need-returns
-returns c = play-short (c .before .before .before .before .before .args .registers) (c .before .before .before .before .before .args .words .now) (c .before .before .before .before .before .args .counter) (c .before .before .before .before .before .args .out .now) (ap answerSays (sym (c .before .enum-told .given .1)) ∙ c .before .before .before .check-sound .ensures) (c .if1 .taken)
+returns c =
+    let args = c .before .before .before .before .before .args in
+    let check-sound = c .before .before .before .check-sound in
+    play-short (args .registers) (args .words .now) (args .counter) (args .out .now)
+    (ap answerSays (sym (c .before .enum-told .given .1)) ∙ check-sound .ensures) (c .if1 .taken)
 
 lefts-requires : tie.Need-lefts-requires
 lefts-requires c κs = search needs
@@ -30,21 +35,39 @@ amplitudes-requires : tie.Need-amplitudes-requires
 amplitudes-requires c κs = search needs
 
 put-words-requires : tie.Need-put-words-requires
-put-words-requires c κs = let g = c .before .before .before .before .before .before .before .before .before .before .before .before .args .registers in (
-  search needs,
-  rw (c .before .before .before .before .before .before .lefts .ensures) (eight-most (leftAt g) (λ channel. omega arith)),
-  rw (c .before .before .before .before .before .rights .ensures) (eight-most (rightAt g) (λ channel. omega arith)),
-  c .before .before .before .before .amplitudes .ensures,
-)
+put-words-requires c κs =
+    let at-amplitudes = c .before .before .before .before in
+    let at-rights = at-amplitudes .before in
+    let at-lefts = at-rights .before in
+    let args = at-lefts .before .before .before .before .before .before .args in
+    let g = args .registers in (
+      search needs,
+      rw (at-lefts .lefts .ensures) (eight-most (leftAt g) (λ channel. omega arith)),
+      rw (at-rights .rights .ensures) (eight-most (rightAt g) (λ channel. omega arith)),
+      at-amplitudes .amplitudes .ensures,
+    )
 
 returns-2 : tie.Need-returns-2
-returns-2 c = play-refused (c .before .before .before .before .before .args .registers) (c .before .before .before .before .before .args .words .now) (c .before .before .before .before .before .args .counter) (c .before .before .before .before .before .args .out .now) _ (ap answerSays (sym (c .before .why .given .1)) ∙ c .before .before .before .check-sound .ensures)
+returns-2 c =
+    let args = c .before .before .before .before .before .args in
+    let check-sound = c .before .before .before .check-sound in
+    play-refused (args .registers) (args .words .now) (args .counter) (args .out .now) _
+    (ap answerSays (sym (c .before .why .given .1)) ∙ check-sound .ensures)
 
 same-length : tie.Need-same-length
 same-length c = search needs
 
 returns-3 : tie.Need-returns-3
-returns-3 c = play-done (c .before .before .before .before .before .before .before .before .before .before .before .before .before .before .args .registers) (c .before .before .before .before .before .before .before .before .before .before .before .before .before .before .args .words .now) (c .before .before .before .before .before .before .before .before .before .before .before .before .before .before .args .counter) (c .before .before .before .before .before .before .before .before .before .before .before .before .before .before .args .out .now) _ _ _ _ (ap answerSays (sym (c .before .before .before .before .before .before .before .before .before .before .enum-told .given .1)) ∙ c .before .before .before .before .before .before .before .before .before .before .before .before .check-sound .ensures) (c .before .before .before .before .before .before .before .before .before .if1 .left) (c .before .before .before .before .before .before .before .before .lefts .ensures) (c .before .before .before .before .before .before .before .rights .ensures) (c .before .put-words .ensures .0) (c .before .put-words .ensures .1)
+returns-3 c =
+    let at-rights = c .before .before .before .before .before .before .before in
+    let at-lefts = at-rights .before in
+    let at-if1 = at-lefts .before in
+    let at-enum-told = at-if1 .before in
+    let at-check-sound = at-enum-told .before .before in
+    let args = at-check-sound .before .before .args in
+    play-done (args .registers) (args .words .now) (args .counter) (args .out .now) _ _ _ _
+    (ap answerSays (sym (at-enum-told .enum-told .given .1)) ∙ at-check-sound .check-sound .ensures) (at-if1 .if1 .left)
+    (at-lefts .lefts .ensures) (at-rights .rights .ensures) (c .before .put-words .ensures .0) (c .before .put-words .ensures .1)
 
 pub play-spec : {M : Type 1} → statement M
 play-spec =

@@ -1,3 +1,4 @@
+-- The first words of a file, a word a turn: what is stored and what the rest will store make the whole.
 use mathlib.Core.Path.{_≡_, sym, _∙_}
 use Prim.Native.Nat.{_≤_, _*_, _-_}
 use borrow.Author.Needs.{needs}
@@ -38,11 +39,14 @@ loop-less : tie.Need-loop-less Inv-loop μ-loop
 loop-less c = search needs
 
 loop-again : tie.Need-loop-again Inv-loop μ-loop
-loop-again c = let s = c .before .before .before .before .before in
-    let l = c .before .before .loop in (
+loop-again c =
+    let loop = c .before .before .loop in
+    let s = c .before .before .before .before .before in
+    let l = loop in (
       search needs,
       simp length-set (l .inv .1),
-      l .inv .2 ∙ copy-turn (s .args .bytes .now) (s .args .count) (s .pre .0) (l .out) (l .k) (c .word-at .result) (search needs) (c .word-at .ensures),
+      l .inv .2 ∙ copy-turn (s .args .bytes .now) (s .args .count) (s .pre .0) (l .out) (l .k) (c .word-at .result) (search needs)
+          (c .word-at .ensures),
     )
 
 same-length : tie.Need-same-length Inv-loop μ-loop

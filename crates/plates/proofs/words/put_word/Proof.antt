@@ -1,3 +1,4 @@
+-- A word's four bytes, lowest first.
 use Prim.Native.Nat.{_/_, _%_}
 use Rattle.buffers.specs.Words.{bytesOf}
 use Rattle.buffers.proofs.Sets.{sets-four}
@@ -45,7 +46,9 @@ same-length c = search needs
 
 returns : tie.Need-returns
 unfolding bytesOf
-returns c = sets-four (c .args .out .now) (c .args .at) (c .args .word % 256) (c .args .word / 256 % 256) (c .args .word / 65536 % 256) (c .args .word / 16777216 % 256)
+returns c =
+    sets-four (c .args .out .now) (c .args .at) (c .args .word % 256) (c .args .word / 256 % 256) (c .args .word / 65536 % 256)
+    (c .args .word / 16777216 % 256)
 
 pub put-word-spec : {M : Type 1} → statement M
 put-word-spec =

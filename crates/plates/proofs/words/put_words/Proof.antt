@@ -1,3 +1,4 @@
+-- The bytes of all words, a word a turn: what is stored and what the rest will store make the whole.
 use native.Mathlib.Nat.{add-zero, mul-zero}
 use mathlib.Core.Path.{_≡_, sym, _∙_}
 use Prim.Native.Nat.{_≤_, _+_, _*_, _-_}

@@ -1,3 +1,4 @@
+-- One row joined to those after it: its test chooses between its refusal and what they answer.
 use borrow.Author.Needs.{needs}
 use Rattle.registers.proofs.check.refused_if.Statement.{statement}
 use Rattle.registers.proofs.check.refused_if.Tie as tie

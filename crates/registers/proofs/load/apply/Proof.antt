@@ -1,3 +1,4 @@
+-- All words stored, one a turn: what the rest of the list does to the record so far is what the whole list does to the first.
 use borrow.Author.Needs.{needs}
 use Rattle.registers.proofs.Lists.{applied-more, applied-all}
 use Rattle.registers.specs.Load.{applied}
@@ -33,7 +34,10 @@ loop-less : tie.Need-loop-less Inv-loop μ-loop
 loop-less c = search needs
 
 loop-again : tie.Need-loop-again Inv-loop μ-loop
-loop-again c = (omega arith, rw (c .store .ensures) (c .before .before .before .loop .inv .1 ∙ applied-more (c .before .before .before .before .before .args .words .now) (c .before .before .before .loop .i) _ (omega arith)))
+loop-again c =
+    let args = c .before .before .before .before .before .args in
+    let loop = c .before .before .before .loop in
+    (omega arith, rw (c .store .ensures) (loop .inv .1 ∙ applied-more (args .words .now) (loop .i) _ (omega arith)))
 
 returns : tie.Need-returns Inv-loop μ-loop
 returns c = sym (c .before .loop .inv .1 ∙ applied-all (c .before .before .before .args .words .now) (c .before .loop .i) _ (omega arith))

@@ -1,3 +1,4 @@
+-- The words before the first reserved one, counted a turn each: those counted and those that lead the rest are those that lead the whole.
 use borrow.Author.Needs.{needs}
 use Rattle.registers.specs.Load.{leading}
 use native.Mathlib.Omega.{arith}
@@ -27,7 +28,10 @@ is-reserved-requires : tie.Need-is-reserved-requires Inv-loop μ-loop
 is-reserved-requires c κs = search needs
 
 returns : tie.Need-returns Inv-loop μ-loop
-returns c = omega (arith, leading-here (c .before .before .before .before .before .before .args .words .now) (c .before .before .before .before .loop .i) (omega arith) (sym (c .before .is-reserved .ensures) ∙ c .if1 .taken))
+returns c =
+    let args = c .before .before .before .before .before .before .args in
+    let loop = c .before .before .before .before .loop in
+    omega (arith, leading-here (args .words .now) (loop .i) (omega arith) (sym (c .before .is-reserved .ensures) ∙ c .if1 .taken))
 
 add-i : tie.Need-add-i Inv-loop μ-loop
 add-i c = search needs
@@ -36,7 +40,12 @@ loop-less : tie.Need-loop-less Inv-loop μ-loop
 loop-less c = search needs
 
 loop-again : tie.Need-loop-again Inv-loop μ-loop
-loop-again c = (omega arith, omega (arith, leading-more (c .before .before .before .before .before .before .args .words .now) (c .before .before .before .before .loop .i) (omega arith) (sym (c .before .is-reserved .ensures) ∙ c .if1 .left)))
+loop-again c =
+    let args = c .before .before .before .before .before .before .args in
+    let loop = c .before .before .before .before .loop in (
+      omega arith,
+      omega (arith, leading-more (args .words .now) (loop .i) (omega arith) (sym (c .before .is-reserved .ensures) ∙ c .if1 .left)),
+    )
 
 returns-2 : tie.Need-returns-2 Inv-loop μ-loop
 returns-2 c = omega (arith, leading-none (c .before .before .before .args .words .now) (c .before .loop .i) (omega arith))

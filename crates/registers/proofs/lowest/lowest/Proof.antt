@@ -1,3 +1,4 @@
+-- The lowest slot at fault, for each kind of fault, is what the function for that kind answers.
 use borrow.Author.Needs.{needs}
 use Rattle.registers.proofs.lowest.lowest.Statement.{statement}
 use Rattle.registers.proofs.lowest.lowest.Tie as tie

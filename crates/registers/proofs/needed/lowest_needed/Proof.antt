@@ -1,3 +1,4 @@
+-- The lowest missing slot is the lowest of each group's own; with the cursor on, of two groups more.
 use native.Mathlib.Omega.{arith}
 use borrow.Author.Tests.{not-true, not-false}
 use Rattle.registers.proofs.Missing.{missing-cursor-off, missing-cursor-on}
@@ -36,7 +37,24 @@ least-requires-3 : tie.Need-least-requires-3
 least-requires-3 c κs = search needs
 
 returns : tie.Need-returns
-returns c = let s = c .before .before .before .before .before .before .before .before .before .args in rw (not-true (s .cursor) (c .if1 .taken), missing-cursor-off (s .written .now) (s .entries) (omega arith)) (simp (c .before .least3 .ensures, c .before .before .least2 .ensures, c .before .before .before .least .ensures, c .before .before .before .before .lowest-unwritten3 .ensures, c .before .before .before .before .before .lowest-unwritten2 .ensures, c .before .before .before .before .before .before .slot-if .ensures, c .before .before .before .before .before .before .before .before .lowest-unwritten .ensures))
+returns c =
+    let at-least2 = c .before .before in
+    let at-least = at-least2 .before in
+    let at-lowest-unwritten3 = at-least .before in
+    let at-lowest-unwritten2 = at-lowest-unwritten3 .before in
+    let at-slot-if = at-lowest-unwritten2 .before in
+    let at-lowest-unwritten = at-slot-if .before .before in
+    let s = at-lowest-unwritten .before .args in
+    rw (not-true (s .cursor) (c .if1 .taken), missing-cursor-off (s .written .now) (s .entries) (omega arith))
+    (simp (
+      c .before .least3 .ensures,
+      at-least2 .least2 .ensures,
+      at-least .least .ensures,
+      at-lowest-unwritten3 .lowest-unwritten3 .ensures,
+      at-lowest-unwritten2 .lowest-unwritten2 .ensures,
+      at-slot-if .slot-if .ensures,
+      at-lowest-unwritten .lowest-unwritten .ensures,
+    ))
 
 element-copy-out-slot-if-2 : tie.Need-element-copy-out-slot-if-2
 element-copy-out-slot-if-2 c = search needs
@@ -54,7 +72,36 @@ least-requires-5 : tie.Need-least-requires-5
 least-requires-5 c κs = search needs
 
 returns-2 : tie.Need-returns-2
-returns-2 c = let s = c .before .before .before .before .before .before .before .before .before .before .before .before .before .before .args in rw (not-false (s .cursor) (c .before .before .before .before .before .if1 .left), missing-cursor-on (s .written .now) (s .entries) (omega arith), missing-cursor-off (s .written .now) (s .entries) (omega arith)) (simp (c .least5 .ensures, c .before .least4 .ensures, c .before .before .lowest-unwritten4 .ensures, c .before .before .before .slot-if2 .ensures, c .before .before .before .before .before .before .least3 .ensures, c .before .before .before .before .before .before .before .least2 .ensures, c .before .before .before .before .before .before .before .before .least .ensures, c .before .before .before .before .before .before .before .before .before .lowest-unwritten3 .ensures, c .before .before .before .before .before .before .before .before .before .before .lowest-unwritten2 .ensures, c .before .before .before .before .before .before .before .before .before .before .before .slot-if .ensures, c .before .before .before .before .before .before .before .before .before .before .before .before .before .lowest-unwritten .ensures))
+returns-2 c =
+    let at-lowest-unwritten4 = c .before .before in
+    let at-slot-if2 = at-lowest-unwritten4 .before in
+    let at-if1 = at-slot-if2 .before .before in
+    let at-least3 = at-if1 .before in
+    let at-least2 = at-least3 .before in
+    let at-least = at-least2 .before in
+    let at-lowest-unwritten3 = at-least .before in
+    let at-lowest-unwritten2 = at-lowest-unwritten3 .before in
+    let at-slot-if = at-lowest-unwritten2 .before in
+    let at-lowest-unwritten = at-slot-if .before .before in
+    let s = at-lowest-unwritten .before .args in
+    rw (
+      not-false (s .cursor) (at-if1 .if1 .left),
+      missing-cursor-on (s .written .now) (s .entries) (omega arith),
+      missing-cursor-off (s .written .now) (s .entries) (omega arith),
+    )
+    (simp (
+      c .least5 .ensures,
+      c .before .least4 .ensures,
+      at-lowest-unwritten4 .lowest-unwritten4 .ensures,
+      at-slot-if2 .slot-if2 .ensures,
+      at-least3 .least3 .ensures,
+      at-least2 .least2 .ensures,
+      at-least .least .ensures,
+      at-lowest-unwritten3 .lowest-unwritten3 .ensures,
+      at-lowest-unwritten2 .lowest-unwritten2 .ensures,
+      at-slot-if .slot-if .ensures,
+      at-lowest-unwritten .lowest-unwritten .ensures,
+    ))
 
 pub lowest-needed-spec : {M : Type 1} → statement M
 lowest-needed-spec =

@@ -1,3 +1,4 @@
+-- The lowest slot that sound misses: of the stereo registers, and of the sound frequency.
 use Rattle.registers.proofs.Missing.{sound-missing}
 use borrow.Author.Needs.{needs}
 use Rattle.registers.proofs.stereo.lowest_sound_missing.Statement.{statement}
@@ -16,7 +17,10 @@ least-requires : tie.Need-least-requires
 least-requires c κs = search needs
 
 returns : tie.Need-returns
-returns c = rw (sound-missing (c .before .before .before .before .before .before .args .t1)) (simp (c .least .ensures, c .before .slot-if .ensures, c .before .before .before .lowest-unwritten .ensures))
+returns c =
+    let args = c .before .before .before .before .before .before .args in
+    let lowest-unwritten = c .before .before .before .lowest-unwritten in
+    rw (sound-missing (args .t1)) (simp (c .least .ensures, c .before .slot-if .ensures, lowest-unwritten .ensures))
 
 pub lowest-sound-missing-spec : {M : Type 1} → statement M
 lowest-sound-missing-spec =

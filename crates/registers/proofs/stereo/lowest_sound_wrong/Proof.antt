@@ -1,3 +1,4 @@
+-- The lowest slot that is wrong for sound: of the stereo values 0, and of the sound frequency.
 use Rattle.registers.proofs.Missing.{sound-wrong}
 use borrow.Author.Needs.{needs}
 use Rattle.registers.proofs.stereo.lowest_sound_wrong.Statement.{statement}
@@ -19,7 +20,10 @@ least-requires : tie.Need-least-requires
 least-requires c κs = search needs
 
 returns : tie.Need-returns
-returns c = rw (sound-wrong (c .before .before .before .before .before .before .args .t1)) (simp (c .least .ensures, c .before .slot-if .ensures, c .before .before .before .lowest-zero-stereo .ensures))
+returns c =
+    let args = c .before .before .before .before .before .before .args in
+    let lowest-zero-stereo = c .before .before .before .lowest-zero-stereo in
+    rw (sound-wrong (args .t1)) (simp (c .least .ensures, c .before .slot-if .ensures, lowest-zero-stereo .ensures))
 
 pub lowest-sound-wrong-spec : {M : Type 1} → statement M
 lowest-sound-wrong-spec =

@@ -1,3 +1,4 @@
+-- A byte's amplitude stands in the table at its bits 7-1.
 use borrow.Author.Needs.{needs}
 use Rattle.sound.proofs.amplitude.amplitude.Statement.{statement}
 use Rattle.sound.proofs.amplitude.amplitude.Tie as tie

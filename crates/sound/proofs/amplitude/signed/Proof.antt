@@ -1,3 +1,4 @@
+-- The amplitude negated by the sign bit: both fit 16 bits.
 use Rattle.sound.proofs.Signed.{amplitude-fits, neg-fits, negative, positive}
 use borrow.Author.Needs.{needs}
 use Rattle.sound.proofs.amplitude.signed.Statement.{statement}

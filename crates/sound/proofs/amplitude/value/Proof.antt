@@ -1,3 +1,4 @@
+-- A byte's value is its signed amplitude times sixths, and fits 16 bits.
 use Rattle.sound.proofs.Signed.{product-fits, product-is}
 use borrow.Author.Needs.{needs}
 use Rattle.sound.proofs.amplitude.value.Statement.{statement}

@@ -1,3 +1,4 @@
+-- The left sixths of the eight channels, each by its own call.
 use borrow.Author.Needs.{needs}
 use Rattle.sound.proofs.sixths.lefts.Statement.{statement}
 use Rattle.sound.proofs.sixths.lefts.Tie as tie
@@ -27,7 +28,23 @@ left-at-requires-8 : tie.Need-left-at-requires-8
 left-at-requires-8 c κs = search needs
 
 returns : tie.Need-returns
-returns c = simp (c .before .before .before .before .before .before .before .left-at .ensures, c .before .before .before .before .before .before .left-at2 .ensures, c .before .before .before .before .before .left-at3 .ensures, c .before .before .before .before .left-at4 .ensures, c .before .before .before .left-at5 .ensures, c .before .before .left-at6 .ensures, c .before .left-at7 .ensures, c .left-at8 .ensures)
+returns c =
+    let left-at = c .before .before .before .before .before .before .before .left-at in
+    let left-at2 = c .before .before .before .before .before .before .left-at2 in
+    let left-at3 = c .before .before .before .before .before .left-at3 in
+    let left-at4 = c .before .before .before .before .left-at4 in
+    let left-at5 = c .before .before .before .left-at5 in
+    let left-at6 = c .before .before .left-at6 in
+    simp (
+      left-at .ensures,
+      left-at2 .ensures,
+      left-at3 .ensures,
+      left-at4 .ensures,
+      left-at5 .ensures,
+      left-at6 .ensures,
+      c .before .left-at7 .ensures,
+      c .left-at8 .ensures,
+    )
 
 pub lefts-spec : {M : Type 1} → statement M
 lefts-spec =

@@ -1,3 +1,4 @@
+-- The right sixths of the eight channels, each by its own call.
 use borrow.Author.Needs.{needs}
 use Rattle.sound.proofs.sixths.rights.Statement.{statement}
 use Rattle.sound.proofs.sixths.rights.Tie as tie
@@ -27,7 +28,23 @@ right-at-requires-8 : tie.Need-right-at-requires-8
 right-at-requires-8 c κs = search needs
 
 returns : tie.Need-returns
-returns c = simp (c .before .before .before .before .before .before .before .right-at .ensures, c .before .before .before .before .before .before .right-at2 .ensures, c .before .before .before .before .before .right-at3 .ensures, c .before .before .before .before .right-at4 .ensures, c .before .before .before .right-at5 .ensures, c .before .before .right-at6 .ensures, c .before .right-at7 .ensures, c .right-at8 .ensures)
+returns c =
+    let right-at = c .before .before .before .before .before .before .before .right-at in
+    let right-at2 = c .before .before .before .before .before .before .right-at2 in
+    let right-at3 = c .before .before .before .before .before .right-at3 in
+    let right-at4 = c .before .before .before .before .right-at4 in
+    let right-at5 = c .before .before .before .right-at5 in
+    let right-at6 = c .before .before .right-at6 in
+    simp (
+      right-at .ensures,
+      right-at2 .ensures,
+      right-at3 .ensures,
+      right-at4 .ensures,
+      right-at5 .ensures,
+      right-at6 .ensures,
+      c .before .right-at7 .ensures,
+      c .right-at8 .ensures,
+    )
 
 pub rights-spec : {M : Type 1} → statement M
 rights-spec =

@@ -1,4 +1,6 @@
-use Rattle.sound.specs.Values.{channelOf, inTable}
+-- A byte's two values, left then right, at the channel of its counter.
+use Rattle.sound.specs.Values.{channelOf}
+use Rattle.sound.specs.inner.Tables.{inTable}
 use Rattle.sound.proofs.Turns.{byte-put}
 use Rattle.sound.proofs.Signed.{stored}
 use lib.ListN.{length-set}

@@ -1,4 +1,5 @@
-use Rattle.sound.specs.Values.{inTable}
+-- A word's values are those of its four bytes, each stored behind the one before.
+use Rattle.sound.specs.inner.Tables.{inTable}
 use Rattle.sound.proofs.Turns.{word-put}
 use borrow.Author.Needs.{needs}
 use Rattle.sound.proofs.values.put_word.Statement.{statement}
@@ -50,8 +51,17 @@ same-length : tie.Need-same-length
 same-length c = search needs
 
 returns : tie.Need-returns
-returns c = let a = c .before .before .before .before .before .before .before .before .before .before .before .before .before .before .before .args in
-    word-put (inTable (a .lefts .now)) (inTable (a .rights .now)) (a .out .now) _ _ _ _ (a .at) (a .word) (a .counter) _ _ _ (c .before .before .before .before .before .before .before .before .before .before .before .before .before .before .advanced .ensures) (c .before .before .before .before .before .before .before .before .before .before .before .before .before .advanced2 .ensures) (c .before .before .before .before .before .before .before .before .before .before .before .before .advanced3 .ensures) (c .before .before .before .before .before .before .before .before .before .before .put-byte .ensures) (c .before .before .before .before .before .before .before .put-byte2 .ensures) (c .before .before .before .before .put-byte3 .ensures) (c .before .put-byte4 .ensures)
+returns c =
+    let at-put-byte3 = c .before .before .before .before in
+    let at-put-byte2 = at-put-byte3 .before .before .before in
+    let at-put-byte = at-put-byte2 .before .before .before in
+    let at-advanced3 = at-put-byte .before .before in
+    let at-advanced2 = at-advanced3 .before in
+    let at-advanced = at-advanced2 .before in
+    let a = at-advanced .before .args in
+    word-put (inTable (a .lefts .now)) (inTable (a .rights .now)) (a .out .now) _ _ _ _ (a .at) (a .word) (a .counter) _ _ _
+    (at-advanced .advanced .ensures) (at-advanced2 .advanced2 .ensures) (at-advanced3 .advanced3 .ensures) (at-put-byte .put-byte .ensures)
+    (at-put-byte2 .put-byte2 .ensures) (at-put-byte3 .put-byte3 .ensures) (c .before .put-byte4 .ensures)
 
 pub put-word-spec : {M : Type 1} → statement M
 put-word-spec =

@@ -1,3 +1,4 @@
+-- The values of all words, a word a turn: what is stored and what the rest will store make the whole.
 use mathlib.Core.Path.{_≡_, refl, sym, _∙_}
 use Prim.Native.Nat.{_≤_, _*_, _-_}
 use borrow.Author.Needs.{needs}
@@ -5,7 +6,8 @@ use native.Mathlib.Omega.{arith}
 use lib.ListN.{length, drop}
 use lib.Seq.{sets}
 use Rattle.buffers.specs.Words.{bytesOf}
-use Rattle.sound.specs.Values.{counterAfter, valuesOf, inTable}
+use Rattle.sound.specs.Values.{counterAfter, valuesOf}
+use Rattle.sound.specs.inner.Tables.{inTable}
 use Rattle.sound.proofs.Turns.{words-turn, words-done}
 use Rattle.sound.proofs.values.put_words.Statement.{statement}
 use Rattle.sound.proofs.values.put_words.Tie as tie
@@ -32,7 +34,12 @@ shared-slice-read-put-word : tie.Need-shared-slice-read-put-word Inv-loop μ-loo
 shared-slice-read-put-word c = search needs
 
 put-word-requires : tie.Need-put-word-requires Inv-loop μ-loop
-put-word-requires c κs = (search needs, c .before .before .before .before .before .pre .1, c .before .before .before .before .before .pre .2, c .before .before .before .before .before .pre .3)
+put-word-requires c κs = (
+  search needs,
+  c .before .before .before .before .before .pre .1,
+  c .before .before .before .before .before .pre .2,
+  c .before .before .before .before .before .pre .3,
+)
 
 advanced-requires : tie.Need-advanced-requires Inv-loop μ-loop
 advanced-requires c κs = search needs
@@ -44,23 +51,31 @@ loop-less : tie.Need-loop-less Inv-loop μ-loop
 loop-less c = search needs
 
 loop-again : tie.Need-loop-again Inv-loop μ-loop
-loop-again c = let s = c .before .before .before .before .before .before .before .before in
-    let l = c .before .before .before .before .before .before .loop in
+loop-again c =
+    let loop = c .before .before .before .before .before .before .loop in
+    let put-word = c .before .before .put-word in
+    let s = c .before .before .before .before .before .before .before .before in
+    let l = loop in
     let a = s .args in (
       search needs,
       search needs,
       omega (arith, c .advanced .ensures, l .inv .2),
-      l .inv .3 ∙ words-turn (inTable (a .lefts .now)) (inTable (a .rights .now)) (a .words .now) (l .out) _ (l .k) (l .c) _ (search needs) (c .advanced .ensures) (c .before .before .put-word .ensures),
+      l .inv .3 ∙ words-turn (inTable (a .lefts .now)) (inTable (a .rights .now)) (a .words .now) (l .out) _ (l .k) (l .c) _ (search needs)
+          (c .advanced .ensures) (put-word .ensures),
     )
 
 same-length : tie.Need-same-length Inv-loop μ-loop
 same-length c = search needs
 
 returns : tie.Need-returns Inv-loop μ-loop
-returns c = let a = c .before .before .before .args in
+returns c =
+    let a = c .before .before .before .args in
     let l = c .before .loop in
-    let e : l .k ≡ length (a .words .now) = omega arith in
-    (rw (← e) (l .inv .2), sym (l .inv .3 ∙ words-done (inTable (a .lefts .now)) (inTable (a .rights .now)) (a .words .now) (l .out) _ (l .k) (l .c) (search needs)))
+    let e : l .k ≡ length (a .words .now) = omega arith in (
+      rw (← e) (l .inv .2),
+      sym
+          (l .inv .3 ∙ words-done (inTable (a .lefts .now)) (inTable (a .rights .now)) (a .words .now) (l .out) _ (l .k) (l .c) (search needs)),
+    )
 
 pub put-words-spec : {M : Type 1} → statement M
 put-words-spec =

@@ -2,7 +2,7 @@
 use borrow.Author.Needs.{needs}
 use Prim.Native.Nat.{_≤_, _-_}
 use mathlib.Core.Bool.{false}
-use mathlib.Core.Path.{_≡_, refl}
+use mathlib.Core.Path.{_≡_, refl, _∙_}
 use native.Mathlib.Omega.{arith}
 use lib.ListN.{length}
 use Rattle.buffers.proofs.Paints.{Paints, paint-none, paint-more}
@@ -51,12 +51,16 @@ loop-again c =
     (search needs, l .inv .1, l .inv .2, paint-more _ (search needs) (search needs) refl (l .inv .3), paint-more _ (search needs) (search needs) refl
     (l .inv .4))
 
+of-slots-requires : tie.Need-of-slots-requires Inv-loop μ-loop
+of-slots-requires c κs = search needs
+
 returns : tie.Need-returns Inv-loop μ-loop
 returns c =
-    let s = c .before .before in
-    let l = c .before .loop in
+    let s = c .before .before .before .before .before in
+    let l = c .before .before .loop in
     let e : l .k ≡ 64 = omega arith in
-    record-made (s .args .values .now) (s .args .written .now) _ (l .numbers) _ (l .flags) (s .pre .0) (s .pre .1)
+    c .of-slots .ensures
+    ∙ record-made (s .args .values .now) (s .args .written .now) _ (l .numbers) _ (l .flags) (s .pre .0) (s .pre .1)
     (l .inv .1) (l .inv .2) (rw e at (l .inv .3)) (rw e at (l .inv .4))
 
 pub record-of-spec : {M : Type 1} → statement M
@@ -75,4 +79,5 @@ record-of-spec =
     add-k
     loop-less
     loop-again
+    of-slots-requires
     returns)

@@ -1,3 +1,4 @@
+-- The head is stored where it fits, else nothing.
 use Rattle.waves.proofs.Heads.{no-head, put-head}
 use Rattle.buffers.proofs.Puts.{put-nothing}
 use borrow.Author.Needs.{needs}
@@ -20,7 +21,11 @@ same-length : tie.Need-same-length
 same-length c = search needs
 
 returns-2 : tie.Need-returns-2
-returns-2 c = put-head _ _ _ (c .before .before .before .before .before .before .before .before .args .frequency) (c .before .before .before .before .before .before .before .before .args .words) (search needs) (c .before .before .before .before .before .head-words .ensures) (c .before .before .put-words .ensures)
+returns-2 c =
+    let at-put-words = c .before .before in
+    let at-head-words = at-put-words .before .before .before in
+    let args = at-head-words .before .before .before .args in
+    put-head _ _ _ (args .frequency) (args .words) (search needs) (at-head-words .head-words .ensures) (at-put-words .put-words .ensures)
 
 pub head-spec : {M : Type 1} → statement M
 head-spec =

@@ -1,3 +1,4 @@
+-- The head's eleven words are the definition's, with the rate that its own call gives.
 use native.Mathlib.Omega.{arith}
 use Rattle.waves.proofs.Heads.{rate-most}
 use borrow.Author.Needs.{needs}

@@ -1,3 +1,4 @@
+-- The bytes of some words, a byte a turn: byte k is byte k mod 4 of word k / 4.
 use borrow.Author.Needs.{needs}
 use Prim.Native.Nat.{_-_, _*_, _≤_}
 use mathlib.Core.Path.{_≡_, refl, sym, _∙_}
@@ -50,7 +51,11 @@ loop-less : tie.Need-loop-less Inv-loop μ-loop
 loop-less c = search needs
 
 loop-again : tie.Need-loop-again Inv-loop μ-loop
-loop-again c = let l = c .before .before .loop in (omega arith, l .inv .1, simp length-set (l .inv .2), head-turn (l .out) (c .before .before .before .args .words .now) (l .k) _ (omega arith) refl ∙ l .inv .3)
+loop-again c =
+    let args = c .before .before .before .args in
+    let loop = c .before .before .loop in
+    let l = loop in
+    (omega arith, l .inv .1, simp length-set (l .inv .2), head-turn (l .out) (args .words .now) (l .k) _ (omega arith) refl ∙ l .inv .3)
 
 same-length : tie.Need-same-length Inv-loop μ-loop
 same-length c = search needs

@@ -1,3 +1,4 @@
+-- Two bytes a value, a value a turn: what is stored and what the rest will store make the whole.
 use mir.Syntax.{w16}
 use mir.Val.{SFits}
 use lib.IntN.{pos}
@@ -60,13 +61,25 @@ loop-less : tie.Need-loop-less Inv-loop μ-loop
 loop-less c = search needs
 
 loop-again : tie.Need-loop-again Inv-loop μ-loop
-loop-again c = let l = c .before .before .before .loop in let v = c .before .before .before .before .before .args .values .now in let f : SFits w16 (getD v (l .k) (pos 0)) = search needs in (omega arith, simp length-set (l .inv .1), samples-turn (l .out) v (l .k) _ (omega arith) (c .sample-of .ensures ∙ ap sampleOf (toZ-ofZ f)) ∙ l .inv .2)
+loop-again c =
+    let args = c .before .before .before .before .before .args in
+    let loop = c .before .before .before .loop in
+    let l = loop in
+    let v = args .values .now in
+    let f : SFits w16 (getD v (l .k) (pos 0)) = search needs in (
+      omega arith,
+      simp length-set (l .inv .1),
+      samples-turn (l .out) v (l .k) _ (omega arith) (c .sample-of .ensures ∙ ap sampleOf (toZ-ofZ f)) ∙ l .inv .2,
+    )
 
 same-length : tie.Need-same-length Inv-loop μ-loop
 same-length c = search needs
 
 returns : tie.Need-returns Inv-loop μ-loop
-returns c = let l = c .before .loop in sym (samples-done (l .out) (c .before .before .before .args .values .now) (2 * l .k) (l .k) (omega arith)) ∙ l .inv .2
+returns c =
+    let args = c .before .before .before .args in
+    let l = c .before .loop in
+    sym (samples-done (l .out) (args .values .now) (2 * l .k) (l .k) (omega arith)) ∙ l .inv .2
 
 pub put-samples-spec : {M : Type 1} → statement M
 put-samples-spec =

@@ -1,3 +1,4 @@
+-- All samples' bytes are stored where they fit, else none.
 use Rattle.waves.proofs.Stored.{no-room, put-samples}
 use Rattle.buffers.proofs.Puts.{put-nothing}
 use native.Mathlib.Omega.{arith}

@@ -1,3 +1,4 @@
+-- A record is accepted with its setting where no row answers, else refused as the table says.
 use Rattle.refusals.specs.declared.Answer.the-variants.{Done, Refused}
 use Rattle.registers.specs.declared.record.Registers.{Registers}
 use Rattle.refusals.specs.declared.Answer.{Answer}
@@ -29,10 +30,17 @@ enum-known-why : tie.Need-enum-known-why
 enum-known-why c = search needs
 
 returns : tie.Need-returns
-returns c = rw (c .before .before .before .setting .ensures) (told-check (c .before .before .before .before .args .self) Done (sym (ap answerSays (c .enum-told .given .1)) ∙ c .before .before .judge .ensures))
+returns c =
+    let args = c .before .before .before .before .args in
+    let setting = c .before .before .before .setting in
+    let judge = c .before .before .judge in
+    rw (setting .ensures) (told-check (args .self) Done (sym (ap answerSays (c .enum-told .given .1)) ∙ judge .ensures))
 
 returns-2 : tie.Need-returns-2
-returns-2 c = told-check (c .before .before .before .before .before .args .self) (Refused (c .before .why .given .0 .0)) (sym (ap answerSays (c .before .why .given .1)) ∙ c .before .before .before .judge .ensures)
+returns-2 c =
+    let args = c .before .before .before .before .before .args in
+    let judge = c .before .before .before .judge in
+    told-check (args .self) (Refused (c .before .why .given .0 .0)) (sym (ap answerSays (c .before .why .given .1)) ∙ judge .ensures)
 
 pub check-spec : {M : Type 1} → statement M
 check-spec =

@@ -1,3 +1,4 @@
+-- Sound is refused for the lowest unwritten slot, then for the lowest wrong one. Each return is one row of its table.
 use Rattle.registers.specs.Sound.{soundTold}
 use borrow.Author.Tests.{le-ltb, lt-ltb}
 use borrow.Author.Needs.{needs}
@@ -28,11 +29,17 @@ mul-t10 c = search needs
 
 returns-2 : tie.Need-returns-2
 unfolding soundTold
-returns-2 c = simp (← c .before .before .before .lowest .ensures, le-ltb _ _ (c .before .before .if1 .left), ← c .before .lowest2 .ensures, lt-ltb _ _ (c .if2 .taken))
+returns-2 c =
+    let lowest = c .before .before .before .lowest in
+    let if1 = c .before .before .if1 in
+    simp (← lowest .ensures, le-ltb _ _ (if1 .left), ← c .before .lowest2 .ensures, lt-ltb _ _ (c .if2 .taken))
 
 returns-3 : tie.Need-returns-3
 unfolding soundTold
-returns-3 c = simp (← c .before .before .before .lowest .ensures, le-ltb _ _ (c .before .before .if1 .left), ← c .before .lowest2 .ensures, le-ltb _ _ (c .if2 .left))
+returns-3 c =
+    let lowest = c .before .before .before .lowest in
+    let if1 = c .before .before .if1 in
+    simp (← lowest .ensures, le-ltb _ _ (if1 .left), ← c .before .lowest2 .ensures, le-ltb _ _ (c .if2 .left))
 
 pub check-sound-spec : {M : Type 1} → statement M
 check-sound-spec =

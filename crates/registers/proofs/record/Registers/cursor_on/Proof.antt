@@ -1,3 +1,4 @@
+-- The cursor is on by two written marks and two vertical values, each read by its own call.
 use borrow.Author.Needs.{needs}
 use Rattle.registers.proofs.record.Registers.cursor_on.Statement.{statement}
 use Rattle.registers.proofs.record.Registers.cursor_on.Tie as tie

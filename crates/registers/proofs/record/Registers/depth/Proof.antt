@@ -1,3 +1,4 @@
+-- The depth stands in a table by its two bits.
 use borrow.Author.Needs.{needs}
 use Rattle.registers.proofs.record.Registers.depth.Statement.{statement}
 use Rattle.registers.proofs.record.Registers.depth.Tie as tie

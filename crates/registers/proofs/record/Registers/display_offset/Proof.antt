@@ -1,3 +1,4 @@
+-- The display's offset stands in a table by the depth's two bits.
 use borrow.Author.Needs.{needs}
 use Rattle.registers.proofs.record.Registers.display_offset.Statement.{statement}
 use Rattle.registers.proofs.record.Registers.display_offset.Tie as tie

@@ -1,3 +1,4 @@
+-- The entries in use stand in a table by the depth's two bits.
 use borrow.Author.Needs.{needs}
 use Rattle.registers.proofs.record.Registers.entries_in_use.Statement.{statement}
 use Rattle.registers.proofs.record.Registers.entries_in_use.Tie as tie

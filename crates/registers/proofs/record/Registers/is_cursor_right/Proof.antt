@@ -1,3 +1,4 @@
+-- The cursor's rule, with the sub-position that its own call reads.
 use borrow.Author.Needs.{needs}
 use Rattle.registers.proofs.record.Registers.is_cursor_right.Statement.{statement}
 use Rattle.registers.proofs.record.Registers.is_cursor_right.Tie as tie

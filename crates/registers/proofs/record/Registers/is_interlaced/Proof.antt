@@ -1,3 +1,4 @@
+-- Control bit 6, of the control register's data.
 use borrow.Author.Needs.{needs}
 use Rattle.registers.proofs.record.Registers.is_interlaced.Statement.{statement}
 use Rattle.registers.proofs.record.Registers.is_interlaced.Tie as tie

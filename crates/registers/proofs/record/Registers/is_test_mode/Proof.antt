@@ -1,3 +1,4 @@
+-- Control bits 15 and 14, of the control register's data.
 use borrow.Author.Needs.{needs}
 use Rattle.registers.proofs.record.Registers.is_test_mode.Statement.{statement}
 use Rattle.registers.proofs.record.Registers.is_test_mode.Tie as tie

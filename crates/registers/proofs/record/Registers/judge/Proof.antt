@@ -1,3 +1,4 @@
+-- The rows joined from the last to the first: each step is its row of the table, by its test's promise and that of the join.
 use native.Mathlib.Omega.{arith}
 use Rattle.registers.proofs.First.{lowest-most}
 use Rattle.registers.specs.declared.lowest.Fault.the-variants.{Unwritten}
@@ -55,7 +56,31 @@ refused-if-requires-7 : tie.Need-refused-if-requires-7
 refused-if-requires-7 c κs = search needs
 
 returns : tie.Need-returns
-returns c = simp (c .refused-if7 .ensures, c .before .refused-if6 .ensures, c .before .before .is-test-mode .ensures, c .before .before .before .refused-if5 .ensures, c .before .before .before .before .is-interlaced .ensures, c .before .before .before .before .before .refused-if4 .ensures, c .before .before .before .before .before .before .is-horizontal-right .ensures, c .before .before .before .before .before .before .before .refused-if3 .ensures, c .before .before .before .before .before .before .before .before .is-vertical-right .ensures, c .before .before .before .before .before .before .before .before .before .refused-if2 .ensures, c .before .before .before .before .before .before .before .before .before .before .is-width-right .ensures, c .before .before .before .before .before .before .before .before .before .before .before .refused-if .ensures, c .before .before .before .before .before .before .before .before .before .before .before .before .is-cursor-right .ensures, c .before .before .before .before .before .before .before .before .before .before .before .before .before .lowest .ensures, c .before .before .before .before .before .before .before .before .before .before .before .before .before .before .pre)
+returns c =
+    let test-mode = c .before .before in
+    let interlace = test-mode .before .before in
+    let horizontal = interlace .before .before in
+    let vertical = horizontal .before .before in
+    let width = vertical .before .before in
+    let cursor = width .before .before in
+    let low = cursor .before in
+    simp (
+      c .refused-if7 .ensures,
+      c .before .refused-if6 .ensures,
+      test-mode .is-test-mode .ensures,
+      test-mode .before .refused-if5 .ensures,
+      interlace .is-interlaced .ensures,
+      interlace .before .refused-if4 .ensures,
+      horizontal .is-horizontal-right .ensures,
+      horizontal .before .refused-if3 .ensures,
+      vertical .is-vertical-right .ensures,
+      vertical .before .refused-if2 .ensures,
+      width .is-width-right .ensures,
+      width .before .refused-if .ensures,
+      cursor .is-cursor-right .ensures,
+      low .lowest .ensures,
+      low .before .pre,
+    )
 
 pub judge-spec : {M : Type 1} → statement M
 judge-spec =

@@ -1,3 +1,4 @@
+-- A register's position is its pair count's.
 use borrow.Author.Needs.{needs}
 use Rattle.registers.proofs.record.Registers.pixels.Statement.{statement}
 use Rattle.registers.proofs.record.Registers.pixels.Tie as tie

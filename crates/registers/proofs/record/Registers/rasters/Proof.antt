@@ -1,3 +1,4 @@
+-- A register's raster count is its value's.
 use borrow.Author.Needs.{needs}
 use Rattle.registers.proofs.record.Registers.rasters.Statement.{statement}
 use Rattle.registers.proofs.record.Registers.rasters.Tie as tie

@@ -1,3 +1,4 @@
+-- Each number of the setting is the promise of the call that reads it.
 use Rattle.registers.specs.Setting.{settingOf}
 use borrow.Author.Needs.{needs}
 use Rattle.registers.proofs.record.Registers.setting.Statement.{statement}
@@ -59,7 +60,43 @@ cursor-on-requires c κs = search needs
 
 returns : tie.Need-returns
 unfolding settingOf
-returns c = simp (c .cursor-on .ensures, c .before .depth .ensures, c .before .before .rasters8 .ensures, c .before .before .before .rasters7 .ensures, c .before .before .before .before .rasters6 .ensures, c .before .before .before .before .before .rasters5 .ensures, c .before .before .before .before .before .before .rasters4 .ensures, c .before .before .before .before .before .before .before .rasters3 .ensures, c .before .before .before .before .before .before .before .before .rasters2 .ensures, c .before .before .before .before .before .before .before .before .before .rasters .ensures, c .before .before .before .before .before .before .before .before .before .before .cursor-start .ensures, c .before .before .before .before .before .before .before .before .before .before .before .pixels6 .ensures, c .before .before .before .before .before .before .before .before .before .before .before .before .pixels5 .ensures, c .before .before .before .before .before .before .before .before .before .before .before .before .before .pixels4 .ensures, c .before .before .before .before .before .before .before .before .before .before .before .before .before .before .pixels3 .ensures, c .before .before .before .before .before .before .before .before .before .before .before .before .before .before .before .pixels2 .ensures, c .before .before .before .before .before .before .before .before .before .before .before .before .before .before .before .before .pixels .ensures, c .before .before .before .before .before .before .before .before .before .before .before .before .before .before .before .before .before .display-offset .ensures)
+returns c =
+    let at-rasters8 = c .before .before in
+    let at-rasters7 = at-rasters8 .before in
+    let at-rasters6 = at-rasters7 .before in
+    let at-rasters5 = at-rasters6 .before in
+    let at-rasters4 = at-rasters5 .before in
+    let at-rasters3 = at-rasters4 .before in
+    let at-rasters2 = at-rasters3 .before in
+    let at-rasters = at-rasters2 .before in
+    let at-cursor-start = at-rasters .before in
+    let at-pixels6 = at-cursor-start .before in
+    let at-pixels5 = at-pixels6 .before in
+    let at-pixels4 = at-pixels5 .before in
+    let at-pixels3 = at-pixels4 .before in
+    let at-pixels2 = at-pixels3 .before in
+    let at-pixels = at-pixels2 .before in
+    let at-display-offset = at-pixels .before in
+    simp (
+      c .cursor-on .ensures,
+      c .before .depth .ensures,
+      at-rasters8 .rasters8 .ensures,
+      at-rasters7 .rasters7 .ensures,
+      at-rasters6 .rasters6 .ensures,
+      at-rasters5 .rasters5 .ensures,
+      at-rasters4 .rasters4 .ensures,
+      at-rasters3 .rasters3 .ensures,
+      at-rasters2 .rasters2 .ensures,
+      at-rasters .rasters .ensures,
+      at-cursor-start .cursor-start .ensures,
+      at-pixels6 .pixels6 .ensures,
+      at-pixels5 .pixels5 .ensures,
+      at-pixels4 .pixels4 .ensures,
+      at-pixels3 .pixels3 .ensures,
+      at-pixels2 .pixels2 .ensures,
+      at-pixels .pixels .ensures,
+      at-display-offset .display-offset .ensures,
+    )
 
 pub setting-spec : {M : Type 1} → statement M
 setting-spec =

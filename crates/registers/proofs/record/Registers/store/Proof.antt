@@ -1,3 +1,4 @@
+-- A word with a reserved address changes nothing; any other has a slot below 64, and is stored there.
 use Rattle.registers.specs.Record.{storedOf}
 use borrow.Author.Needs.{needs}
 use Rattle.registers.proofs.record.Registers.store.Statement.{statement}

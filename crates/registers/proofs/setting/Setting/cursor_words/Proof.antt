@@ -1,3 +1,4 @@
+-- A frame's cursor words, by whether the cursor is on.
 use Rattle.registers.specs.Setting.{cursorWords}
 use borrow.Author.Needs.{needs}
 use Rattle.registers.proofs.setting.Setting.cursor_words.Statement.{statement}

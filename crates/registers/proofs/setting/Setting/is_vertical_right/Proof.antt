@@ -1,3 +1,4 @@
+-- The vertical rule, put together of its parts' own promises.
 use borrow.Author.Needs.{needs}
 use Rattle.registers.proofs.setting.Setting.is_vertical_right.Statement.{statement}
 use Rattle.registers.proofs.setting.Setting.is_vertical_right.Tie as tie
@@ -15,7 +16,10 @@ is-border-right-requires : tie.Need-is-border-right-requires
 is-border-right-requires c κs = search needs
 
 returns : tie.Need-returns
-returns c = simp (c .is-border-right .ensures, c .before .border-on .ensures, c .before .before .display-on .ensures, c .before .before .before .is-display-right .ensures)
+returns c =
+    let is-display-right = c .before .before .before .is-display-right in
+    let display-on = c .before .before .display-on in
+    simp (c .is-border-right .ensures, c .before .border-on .ensures, display-on .ensures, is-display-right .ensures)
 
 pub is-vertical-right-spec : {M : Type 1} → statement M
 is-vertical-right-spec =

@@ -1,3 +1,4 @@
+-- A raster has whole words where no bits are left over.
 use borrow.Author.Needs.{needs}
 use Rattle.registers.proofs.setting.Setting.is_width_right.Statement.{statement}
 use Rattle.registers.proofs.setting.Setting.is_width_right.Tie as tie

@@ -1,3 +1,4 @@
+-- A frame's video words: none with the display off, else the product, which cannot run over.
 use borrow.Author.Tests.{le-ltb, lt-ltb}
 use Rattle.registers.specs.Setting.{videoWords}
 use borrow.Author.Needs.{needs}
@@ -19,7 +20,10 @@ words-for-requires c κs = search needs
 
 returns-2 : tie.Need-returns-2
 unfolding videoWords
-returns-2 c = simp (lt-ltb _ _ (c .before .before .before .if1 .left), c .words-for .ensures, c .before .height-from .ensures, c .before .before .width-from .ensures)
+returns-2 c =
+    let if1 = c .before .before .before .if1 in
+    let width-from = c .before .before .width-from in
+    simp (lt-ltb _ _ (if1 .left), c .words-for .ensures, c .before .height-from .ensures, width-from .ensures)
 
 pub video-words-spec : {M : Type 1} → statement M
 video-words-spec =

@@ -2,8 +2,8 @@
 use Rattle.buffers.proofs.Product.{product-below}
 use Prim.Native.Nat.{_*_}
 use borrow.Author.Needs.{needs}
-use Rattle.registers.proofs.numbers.words_for.Statement.{statement}
-use Rattle.registers.proofs.numbers.words_for.Tie as tie
+use Rattle.registers.proofs.setting.words_for.Statement.{statement}
+use Rattle.registers.proofs.setting.words_for.Tie as tie
 
 cast-result : tie.Need-cast-result
 cast-result c = search needs

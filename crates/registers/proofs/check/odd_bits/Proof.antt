@@ -1,8 +1,8 @@
 -- The bits past whole words: no product of a width and a depth passes 32 bits.
 use Rattle.buffers.proofs.Product.{product-below}
 use borrow.Author.Needs.{needs}
-use Rattle.registers.proofs.numbers.odd_bits.Statement.{statement}
-use Rattle.registers.proofs.numbers.odd_bits.Tie as tie
+use Rattle.registers.proofs.check.odd_bits.Statement.{statement}
+use Rattle.registers.proofs.check.odd_bits.Tie as tie
 
 cast-result : tie.Need-cast-result
 cast-result c = search needs
