@@ -11,8 +11,8 @@ use Rattle.registers.specs.declared.record.Registers.{Registers}
 use Rattle.registers.specs.declared.setting.Setting.{Setting}
 use Rattle.registers.proofs.Accepted.{Accepted}
 use Rattle.colours.specs.Colour.{colourOf}
-use Rattle.frame.specs.Pixel.{logical}
-use Rattle.frame.specs.Cell.{inDisplay, covered, code, cell}
+use Rattle.cells.specs.Pixel.{logical}
+use Rattle.cells.specs.Cell.{inDisplay, covered, code, cell}
 use Rattle.frame.proofs.CellCodes.{code-five, plain-five, cell-colour}
 use Rattle.claims.specs.Shown.{uncovered}
 

@@ -6,7 +6,7 @@ use native.Mathlib.Omega.{arith}
 use borrow.Author.Tests.{ne-eqb}
 use Rattle.registers.specs.declared.record.Registers.{Registers}
 use Rattle.registers.specs.declared.setting.Setting.{Setting}
-use Rattle.frame.specs.Cell.{code, cell}
+use Rattle.cells.specs.Cell.{code, cell}
 use Rattle.pictures.specs.Colours.{red, green, blue, cellColour}
 
 module _ (g : Registers) (s : Setting) (video cursor : List ℕ) (x y : ℕ) (h : code s cursor x y ≤ 3) where

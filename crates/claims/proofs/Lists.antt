@@ -14,7 +14,7 @@ use Rattle.registers.specs.Setting.{rasterWords, videoWords}
 use Rattle.registers.specs.declared.setting.Setting.{Setting}
 use Rattle.registers.proofs.Accepted.{Depth, Accepted}
 use Rattle.registers.proofs.Words.{depth-least, raster-bits, video-rasters}
-use Rattle.frame.specs.Pixel.{pixel, position}
+use Rattle.cells.specs.Pixel.{pixel, position}
 use Rattle.frame.proofs.CellCodes.{InDisplay}
 use Rattle.frame.proofs.RasterWords.{fills-word}
 use Rattle.frame.proofs.Words.{pixel-field}

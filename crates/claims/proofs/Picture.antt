@@ -18,11 +18,11 @@ use Rattle.registers.specs.declared.record.Registers.{Registers}
 use Rattle.registers.specs.declared.setting.Setting.{Setting}
 use Rattle.registers.proofs.Accepted.{Accepted, accepted}
 use Rattle.colours.specs.Colour.{colourOf}
-use Rattle.frame.specs.Pixel.{pixel, position, logical}
-use Rattle.frame.specs.Cell.{inDisplay, covered}
+use Rattle.cells.specs.Pixel.{pixel, position, logical}
+use Rattle.cells.specs.Cell.{inDisplay, covered}
 use Rattle.frame.specs.Frame.{cells}
 use Rattle.frame.proofs.CellCodes.{InDisplay, displayed}
-use Rattle.frame.proofs.PixelPlaces.{pixel-below}
+use Rattle.cells.proofs.PixelPlaces.{pixel-below}
 use Rattle.claims.specs.Shown.{Distinct, Alike, uncovered, SamePixels, frameIn}
 use Rattle.claims.specs.Exhibited.{onePixel}
 use Rattle.claims.specs.Calls.{Every}

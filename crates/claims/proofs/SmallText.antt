@@ -14,8 +14,8 @@ use Rattle.registers.specs.Setting.{settingOf, videoWords, cursorWords}
 use Rattle.registers.specs.Check.{checkTold}
 use Rattle.registers.specs.Small.{smallWords, smallRegisters}
 use Rattle.registers.specs.declared.setting.Setting.{Setting}
-use Rattle.frame.specs.Pixel.{pixel}
-use Rattle.frame.specs.Cell.{plainCode, covered, code, cell}
+use Rattle.cells.specs.Pixel.{pixel}
+use Rattle.cells.specs.Cell.{plainCode, covered, code, cell}
 use Rattle.frame.specs.Frame.{frameCell, rasterCell}
 use Rattle.marks.specs.Count.{total}
 use Rattle.marks.specs.Marks.{marksOf}

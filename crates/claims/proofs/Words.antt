@@ -10,7 +10,7 @@ use Rattle.registers.specs.Check.{settingTable, checkTold}
 use Rattle.registers.specs.declared.record.Registers.{Registers}
 use Rattle.refusals.proofs.Tables.{passes-given}
 use Rattle.registers.proofs.Accepted.{Accepted, accepted}
-use Rattle.frame.specs.Pixel.{pixel, logical}
+use Rattle.cells.specs.Pixel.{pixel, logical}
 use Rattle.stretch.specs.Stretch.{isDisplayed, stretchOf, stretchTable, stretchTold, wordsTold, startTold}
 use Rattle.stretch.specs.declared.found.Stretch.{Stretch}
 use Rattle.stretch.proofs.Stretches.{in-rasters, is-displayed, stretch-none}

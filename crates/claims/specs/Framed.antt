@@ -7,7 +7,7 @@ use Rattle.refusals.specs.Table.{given}
 use Rattle.registers.specs.Setting.{settingOf, videoWords, cursorWords}
 use Rattle.registers.specs.Check.{checkTold}
 use Rattle.registers.specs.declared.record.Registers.{Registers}
-use Rattle.frame.specs.Cell.{cell}
+use Rattle.cells.specs.Cell.{cell}
 use Rattle.frame.specs.Frame.{cells}
 use Rattle.claims.specs.Views.{FrameRun}
 

@@ -17,7 +17,7 @@ use Rattle.registers.specs.declared.setting.Setting.{Setting}
 use Rattle.registers.proofs.Accepted.{Accepted}
 use Rattle.registers.proofs.Exactly.{accepted-setting}
 use Rattle.frame.specs.Frame.{wordsWrong, cells, frameCell, frameTable, frameTold, frameLeaves, rasterCell, rasterTable, rasterTold, rasterLeaves}
-use Rattle.frame.specs.Lent.{Lent}
+use Rattle.frame.specs.inner.Lent.{Lent}
 
 pub cells-most : (s : Setting) → Accepted s → cells s ≤ 2048 * 1024
 cells-most s a = mul-le-mul {n₂ = 2048} {m₂ = 1024} (a .n-most) (a .v-most)

@@ -14,9 +14,9 @@ use Rattle.buffers.proofs.Split.{lt-or-le, true-or-false, is-false}
 use Rattle.buffers.proofs.Paints.{Paints, paint-as, paint-next, paints-of, paints-painted}
 use Rattle.registers.specs.declared.setting.Setting.{Setting}
 use Rattle.registers.proofs.Accepted.{Accepted}
-use Rattle.frame.specs.Cell.{within, inDisplay, inBorder}
-use Rattle.frame.specs.Ink.{blankOf, edgeInk, plainInk, linedInk}
-use Rattle.frame.specs.Made.{Edged, anew}
+use Rattle.cells.specs.Cell.{within, inDisplay, inBorder}
+use Rattle.frame.specs.inner.Ink.{blankOf, edgeInk, plainInk, linedInk}
+use Rattle.frame.specs.inner.Made.{Edged, anew}
 use Rattle.frame.proofs.Regions.{Inside, true-within, border-inside, inside-border, display-inside, inside-display, border-shown, sync-ink, blank-ink, border-ink, display-ink}
 
 module _ (s : Setting) (pens : List ℕ) (x y : ℕ) where

@@ -14,11 +14,11 @@ use Rattle.buffers.proofs.Tests.{and-split}
 use Rattle.buffers.proofs.Split.{true-or-false, is-false}
 use Rattle.buffers.proofs.Paints.{Paints, paint-more, paint-skip, paint-within, paints-of, paints-painted}
 use Rattle.registers.specs.declared.setting.Setting.{Setting}
-use Rattle.frame.specs.Pixel.{cursorPair}
-use Rattle.frame.specs.Cell.{within, inDisplay, inBorder, inCursor, plainCode, covered}
+use Rattle.cells.specs.Pixel.{cursorPair}
+use Rattle.cells.specs.Cell.{within, inDisplay, inBorder, inCursor, plainCode, covered}
 use Rattle.registers.proofs.Accepted.{Accepted, cursor-words}
-use Rattle.frame.specs.Lent.{Pointed}
-use Rattle.frame.specs.Ink.{pairIn, pairInk, coverInk}
+use Rattle.frame.specs.inner.Lent.{Pointed}
+use Rattle.frame.specs.inner.Ink.{pairIn, pairInk, coverInk}
 use Rattle.frame.proofs.Regions.{Inside, within-true, border-inside, inside-border, display-inside, display-bordered, border-shown}
 
 -- A pair is two bits.

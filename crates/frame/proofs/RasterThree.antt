@@ -9,8 +9,8 @@ use Rattle.registers.specs.Lowest.{lowest}
 use Rattle.registers.specs.Setting.{settingOf, videoWords, cursorWords}
 use Rattle.registers.specs.Check.{checkTold}
 use Rattle.registers.specs.Small.{smallRegisters}
-use Rattle.frame.specs.Pixel.{pixel, cursorPair}
-use Rattle.frame.specs.Cell.{plainCode, covered, code, cell}
+use Rattle.cells.specs.Pixel.{pixel, cursorPair}
+use Rattle.cells.specs.Cell.{plainCode, covered, code, cell}
 use Rattle.frame.specs.Frame.{rasterCell, rasterTold, rasterLeaves}
 
 pub raster-three : rasterLeaves smallRegisters (0x76543210 ∷ []) [] 3 (replicate 33 7)

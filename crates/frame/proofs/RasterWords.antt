@@ -11,12 +11,12 @@ use Rattle.buffers.specs.Painted.{painted}
 use Rattle.buffers.proofs.Paints.{paint-as, paints-of, paints-painted}
 use Rattle.registers.specs.Setting.{rasterWords, videoWords}
 use Rattle.registers.specs.declared.setting.Setting.{Setting}
-use Rattle.frame.specs.Pixel.{firstWord}
+use Rattle.cells.specs.Pixel.{firstWord}
 use Rattle.registers.proofs.Accepted.{Depth, Accepted}
 use Rattle.registers.proofs.Words.{depth-least, depth-most, raster-bits, video-rasters}
-use Rattle.frame.specs.Lent.{RasterLent}
-use Rattle.frame.proofs.PixelPlaces.{per-least, past-bytes, past-pixels, byte-part}
-use Rattle.frame.specs.Ink.{from, wordsInk, displayInk}
+use Rattle.frame.specs.inner.Lent.{RasterLent}
+use Rattle.cells.proofs.PixelPlaces.{per-least, past-bytes, past-pixels, byte-part}
+use Rattle.frame.specs.inner.Ink.{from, wordsInk, displayInk}
 
 -- 32/d pixels of d bits fill a word.
 pub fills-word : {d : ℕ} → Depth d → 32 / d * d ≡ 32

@@ -9,12 +9,12 @@ use Rattle.buffers.specs.Pick.{pick}
 use Rattle.buffers.specs.Painted.{painted}
 use Rattle.buffers.proofs.Paints.{Paints, paint-as, paint-next, paints-of, paints-painted}
 use Rattle.registers.specs.declared.setting.Setting.{Setting}
-use Rattle.frame.specs.Pixel.{cursorPair}
-use Rattle.frame.specs.Cell.{covered}
+use Rattle.cells.specs.Pixel.{cursorPair}
+use Rattle.cells.specs.Cell.{covered}
 use Rattle.registers.proofs.Accepted.{Accepted}
-use Rattle.frame.specs.Lent.{Lent}
-use Rattle.frame.specs.Made.{Edged}
-use Rattle.frame.specs.Ink.{from, plainInk, linedInk, ink, coverInk, rowsInk}
+use Rattle.frame.specs.inner.Lent.{Lent}
+use Rattle.frame.specs.inner.Made.{Edged}
+use Rattle.frame.specs.inner.Ink.{from, plainInk, linedInk, ink, coverInk, rowsInk}
 use Rattle.frame.proofs.Edges.{lined-plain}
 
 module _ (s : Setting) (r : Accepted s) (pens line table video cursor o p q : List ℕ) (at y : ℕ) (room : at + s .n .0 ≤ length o) (edged : Edged s pens y line) where

@@ -24,12 +24,12 @@ use Rattle.registers.specs.declared.setting.Setting.{Setting}
 use Rattle.colours.specs.Colour.{shownOf, colourOf, entriesOf}
 use Rattle.colours.proofs.Bounds.{colour-below}
 use Rattle.colours.proofs.Sixteen.{entry-of}
-use Rattle.frame.specs.Pixel.{position, logical, cursorPair}
-use Rattle.frame.specs.Cell.{inDisplay, inBorder, inCursor, plainCode, covered, code, cell}
-use Rattle.frame.specs.Ink.{byteInk, bytesInk, wordsInk, displayInk, plainInk, ink, rowsInk, rowsCell, shade, entryShade, pensOf}
-use Rattle.frame.proofs.PixelPlaces.{per-least, per-most, pixel-byte}
+use Rattle.cells.specs.Pixel.{position, logical, cursorPair}
+use Rattle.cells.specs.Cell.{inDisplay, inBorder, inCursor, plainCode, covered, code, cell}
+use Rattle.frame.specs.inner.Ink.{byteInk, bytesInk, wordsInk, displayInk, plainInk, ink, rowsInk, rowsCell, shade, entryShade, pensOf}
+use Rattle.cells.proofs.PixelPlaces.{per-least, per-most, pixel-byte}
 use Rattle.frame.proofs.Words.{part-room}
-use Rattle.frame.specs.Made.{Bytes, Cells}
+use Rattle.frame.specs.inner.Made.{Bytes, Cells}
 use Rattle.frame.specs.Frame.{cells, frameCell, rasterCell}
 
 -- How many logical pixels there are, as the machine reckons it.

@@ -12,9 +12,9 @@ use Rattle.buffers.proofs.Tests.{and-split}
 use Rattle.buffers.proofs.Split.{lt-or-le, is-false}
 use Rattle.registers.specs.Setting.{displayOn, borderOn}
 use Rattle.registers.specs.declared.setting.Setting.{Setting}
-use Rattle.frame.specs.Cell.{within, inDisplay, inBorder, plainCode}
+use Rattle.cells.specs.Cell.{within, inDisplay, inBorder, plainCode}
 use Rattle.registers.proofs.Accepted.{Accepted}
-use Rattle.frame.specs.Ink.{displayInk, plainInk, blankOf}
+use Rattle.frame.specs.inner.Ink.{displayInk, plainInk, blankOf}
 
 pub within-true : (a b k : ℕ) → within a b k ≡ true → (a ≤ k) × (k < b)
 within-true a b k e =

@@ -13,9 +13,9 @@ use Rattle.buffers.proofs.Split.{lt-or-le, is-false}
 use Rattle.buffers.proofs.Paints.{Paints, paint-as, paint-more, paint-next, paints-of, paints-painted, length-painted}
 use Rattle.registers.specs.declared.setting.Setting.{Setting}
 use Rattle.registers.proofs.Accepted.{Accepted}
-use Rattle.frame.specs.Cell.{within, inDisplay}
-use Rattle.frame.specs.Lent.{RasterLent}
-use Rattle.frame.specs.Ink.{from, cellIn, displayInk, linedInk, blankOf}
+use Rattle.cells.specs.Cell.{within, inDisplay}
+use Rattle.frame.specs.inner.Lent.{RasterLent}
+use Rattle.frame.specs.inner.Ink.{from, cellIn, displayInk, linedInk, blankOf}
 use Rattle.frame.proofs.Regions.{Inside, within-true, true-within, display-inside, inside-display}
 
 -- One position more of a line is copied.

@@ -11,10 +11,9 @@ use Rattle.buffers.specs.Painted.{painted}
 use Rattle.buffers.proofs.Paints.{Paints, paint-next, paint-as, paints-of}
 use Rattle.buffers.proofs.Split.{lt-or-le}
 use Rattle.registers.proofs.Accepted.{Depth}
-use Rattle.frame.specs.Pixel.{pixel}
-use Rattle.frame.specs.Lent.{Parts}
-use Rattle.frame.specs.Ink.{from, cellIn, wordInk, wordsInk}
-use Rattle.frame.proofs.PixelPlaces.{past-bytes, past-pixels, pixel-in}
+use Rattle.frame.specs.inner.Lent.{Parts}
+use Rattle.frame.specs.inner.Ink.{from, cellIn, wordInk, wordsInk}
+use Rattle.cells.proofs.PixelPlaces.{past-bytes, past-pixels}
 
 -- Part j of so many parts has room.
 pub part-room : (j parts count : ℕ) → j < parts → j * count + count ≤ parts * count
@@ -95,18 +94,3 @@ depth-few (inl e) a = omega arith
 depth-few (inr (inl e)) a = omega arith
 depth-few (inr (inr (inl e))) a = omega arith
 depth-few (inr (inr (inr e))) a = absurd (a e)
-
-pub fill-positive : (n d : ℕ) → n * d ≡ 32 → 0 < d
-fill-positive n d e =
-    elim (lt-or-le 0 d) [
-      | inl h ↦ h
-      | inr h ↦
-          let z : d ≡ 0 = omega arith in
-          let y : n * d ≡ 0 = rw z (mul-zero n) in
-          omega arith
-    ]
-
--- Pixel x of word q, where n pixels of d bits fill a word.
-pub pixel-field : (ws : List ℕ) (d n q x : ℕ) → n * d ≡ 32 → x < n → pixel ws d (q * n + x) ≡ getD ws q 0 / 2 ^ (x * d) % 2 ^ d
-pixel-field ws d n q x e h =
-    pixel-in ws d (q * n + x) q (x * d) (omega (arith, ap (λ (k : ℕ). q * k) e)) (omega (arith, mul-le-mul-right d h, fill-positive n d e))

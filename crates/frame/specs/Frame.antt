@@ -10,7 +10,7 @@ use Rattle.registers.specs.Setting.{settingOf, videoWords, cursorWords}
 use Rattle.registers.specs.Check.{checkTold}
 use Rattle.registers.specs.declared.record.Registers.{Registers}
 use Rattle.registers.specs.declared.setting.Setting.{Setting}
-use Rattle.frame.specs.Cell.{cell}
+use Rattle.cells.specs.Cell.{cell}
 
 -- 11: video or cursor word count wrong.
 abbrev pub videoWrong : Setting → List ℕ → Bool

@@ -8,9 +8,9 @@ ghost use mathlib.Core.Path.{_≡_};
 ghost use Prim.Native.Nat.{_+_, _/_, _*_, _≤_, _<_};
 ghost use lib.ListN.{length};
 ghost use Rattle.buffers.specs.Painted.{painted};
-ghost use Rattle.frame.specs.Cell.{within};
-ghost use Rattle.frame.specs.Lent.{Pointed};
-ghost use Rattle.frame.specs.Ink.{pairIn, pairInk, coverInk};
+ghost use Rattle.cells.specs.Cell.{within};
+ghost use Rattle.frame.specs.inner.Lent.{Pointed};
+ghost use Rattle.frame.specs.inner.Ink.{pairIn, pairInk, coverInk};
 
 fn pair(cursor: &[u32], first: usize, i: usize) -> usize
     requires { ⌜ first + i / 16 < length (now cursor) ⌝ }

@@ -7,11 +7,11 @@ ghost use mathlib.Core.Path.{_≡_};
 ghost use Prim.Native.Nat.{_+_, _≤_, _<_};
 ghost use Rattle.buffers.specs.Painted.{painted};
 ghost use Rattle.registers.specs.Setting.{rasterWords};
-ghost use Rattle.frame.specs.Pixel.{firstWord};
+ghost use Rattle.cells.specs.Pixel.{firstWord};
 ghost use Rattle.registers.proofs.Accepted.{Accepted};
-ghost use Rattle.frame.specs.Lent.{RasterLent};
-ghost use Rattle.frame.specs.Made.{Tables};
-ghost use Rattle.frame.specs.Ink.{from, displayInk};
+ghost use Rattle.frame.specs.inner.Lent.{RasterLent};
+ghost use Rattle.frame.specs.inner.Made.{Tables};
+ghost use Rattle.frame.specs.inner.Ink.{from, displayInk};
 
 // How many words a displayed raster has.
 fn raster_words(s: Setting) -> usize

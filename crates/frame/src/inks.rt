@@ -12,9 +12,9 @@ ghost use Prim.Native.Nat.{_*_, _-_, _^_, _≤_};
 ghost use lib.ListN.{length};
 ghost use Rattle.buffers.specs.Painted.{painted};
 ghost use Rattle.registers.proofs.Accepted.{Depth};
-ghost use Rattle.frame.specs.Lent.{Lent};
-ghost use Rattle.frame.specs.Made.{Bytes};
-ghost use Rattle.frame.specs.Ink.{shade, pensOf, rowsCell};
+ghost use Rattle.frame.specs.inner.Lent.{Lent};
+ghost use Rattle.frame.specs.inner.Made.{Bytes};
+ghost use Rattle.frame.specs.inner.Ink.{shade, pensOf, rowsCell};
 
 // The display cell of each logical pixel.
 fn shades(list: &mut [u16], g: Registers, depth: u8)

@@ -9,9 +9,9 @@ ghost use mathlib.Core.Path.{_≡_};
 ghost use Prim.Native.Nat.{_+_, _≤_};
 ghost use lib.ListN.{length};
 ghost use Rattle.buffers.specs.Painted.{painted};
-ghost use Rattle.frame.specs.Lent.{RasterLent};
-ghost use Rattle.frame.specs.Made.{Tables};
-ghost use Rattle.frame.specs.Ink.{from, cellIn, linedInk};
+ghost use Rattle.frame.specs.inner.Lent.{RasterLent};
+ghost use Rattle.frame.specs.inner.Made.{Tables};
+ghost use Rattle.frame.specs.inner.Ink.{from, cellIn, linedInk};
 
 // Positions from the start up to the end of a line, into the raster at place `at`.
 fn copy(out: &mut [u16], at: usize, line: &[u16; 2048], start: Pixels, end: Pixels)

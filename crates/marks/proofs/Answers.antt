@@ -16,7 +16,7 @@ use Rattle.registers.proofs.Accepted.{accepted}
 use Rattle.frame.specs.Frame.{wordsWrong}
 use Rattle.frame.proofs.Calls.{words-right}
 use Rattle.marks.specs.Marks.{marksOf, marksTold}
-use Rattle.marks.specs.Bright.{Ready}
+use Rattle.marks.specs.inner.Bright.{Ready}
 
 module _ (g : Registers) (video cursor : List ℕ) (threshold : ℕ) (x : Checked) (c : checkSays x ≡ checkTold g) where
   pub marks-refused : {why : Refusal} → x ≡ checked.Refused why → refusal why ≡ marksTold g video cursor threshold

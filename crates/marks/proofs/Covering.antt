@@ -18,11 +18,11 @@ use Rattle.registers.specs.Setting.{rasterWords, videoWords, cursorWords}
 use Rattle.registers.specs.declared.setting.Setting.{Setting}
 use Rattle.registers.proofs.Accepted.{Accepted, cursor-off, cursor-words}
 use Rattle.registers.proofs.Words.{raster-bits, depth-least, depth-most, video-rasters, cursor-raster}
-use Rattle.frame.specs.Pixel.{pixel, position, logical, cursorPair}
-use Rattle.frame.specs.Cell.{inDisplay, plainCode, covered}
-use Rattle.frame.proofs.PixelPlaces.{pixel-below}
+use Rattle.cells.specs.Pixel.{pixel, position, logical, cursorPair}
+use Rattle.cells.specs.Cell.{inDisplay, plainCode, covered}
+use Rattle.cells.proofs.PixelPlaces.{pixel-below}
 use Rattle.frame.proofs.CellCodes.{InDisplay, Covered, displayed, in-display, is-covered, five-covered, plain-five}
-use Rattle.marks.specs.Bright.{Ready, OnCursor, cursorBright, rasterBright, cursorRaster, coveredAll}
+use Rattle.marks.specs.inner.Bright.{Ready, OnCursor, cursorBright, rasterBright, cursorRaster, coveredAll}
 use Rattle.marks.specs.Count.{total}
 use Rattle.marks.proofs.Totals.{total-none}
 

@@ -14,12 +14,12 @@ use Rattle.registers.specs.Setting.{displayOn}
 use Rattle.registers.specs.declared.record.Registers.{Registers}
 use Rattle.registers.specs.declared.setting.Setting.{Setting}
 use Rattle.registers.proofs.Accepted.{Accepted}
-use Rattle.frame.specs.Cell.{inDisplay, plainCode, covered}
+use Rattle.cells.specs.Cell.{inDisplay, plainCode, covered}
 use Rattle.frame.specs.Frame.{frameCell}
 use Rattle.frame.proofs.CellCodes.{InDisplay, Covered, displayed, in-display, is-covered, plain-five}
 use Rattle.marks.specs.Count.{total, bit}
 use Rattle.marks.specs.Marks.{markAt, marksOf}
-use Rattle.marks.specs.Bright.{pixelBright, coveredBright, cursorBright, rasterBright, cursorRaster}
+use Rattle.marks.specs.inner.Bright.{pixelBright, coveredBright, cursorBright, rasterBright, cursorRaster}
 use Rattle.marks.proofs.Totals.{total-as, total-none, total-add, total-rows, total-window}
 use Rattle.marks.proofs.Points.{markIn, displayBright}
 

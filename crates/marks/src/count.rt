@@ -7,7 +7,7 @@ use registers::record::Registers;
 use registers::setting::Setting;
 ghost use mathlib.Core.Path.{_≡_};
 ghost use Rattle.marks.specs.Marks.{marksOf};
-ghost use Rattle.marks.specs.Bright.{Ready};
+ghost use Rattle.marks.specs.inner.Bright.{Ready};
 
 pub fn count(g: Registers, s: Setting, video: &[u32], cursor: &[u32], threshold: u8) -> u32
     requires { ⌜ Ready s (now video) (now cursor) ⌝ }

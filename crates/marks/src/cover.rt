@@ -8,9 +8,9 @@ ghost use Prim.Native.Nat.{_+_, _*_, _/_, _%_, _^_, _<_, _≤_};
 ghost use lib.ListN.{length, getD};
 ghost use Rattle.registers.specs.Setting.{videoWords};
 ghost use Rattle.registers.proofs.Accepted.{Accepted};
-ghost use Rattle.frame.specs.Pixel.{position, logical};
+ghost use Rattle.cells.specs.Pixel.{position, logical};
 ghost use Rattle.frame.proofs.CellCodes.{InDisplay};
-ghost use Rattle.marks.specs.Bright.{Ready, OnCursor, cursorBright, cursorRaster, coveredAll};
+ghost use Rattle.marks.specs.inner.Bright.{Ready, OnCursor, cursorBright, cursorRaster, coveredAll};
 
 // Where a displayed position's pixel stands among all.
 fn place(s: Setting, x: Pixels, y: Rasters) -> usize

@@ -3,7 +3,7 @@ ghost use mathlib.Core.Path.{_≡_};
 ghost use Prim.Native.Nat.{_*_, _-_, _≤_};
 ghost use lib.ListN.{length};
 ghost use Rattle.marks.specs.Count.{total};
-ghost use Rattle.marks.specs.Bright.{AtMost, wordBright, wordBrightAt, wordFrom};
+ghost use Rattle.marks.specs.inner.Bright.{AtMost, wordBright, wordBrightAt, wordFrom};
 
 // What the table has for the four bytes of a word.
 fn in_word(bytes: &[u32; 256], word: u32) -> u32

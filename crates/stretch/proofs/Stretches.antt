@@ -12,7 +12,7 @@ use Rattle.registers.specs.Setting.{displayOn, rasterWords, videoWords}
 use Rattle.registers.specs.declared.setting.Setting.{Setting}
 use Rattle.registers.proofs.Accepted.{Accepted}
 use Rattle.registers.proofs.Words.{depth-most, raster-most, video-rasters}
-use Rattle.frame.specs.Cell.{within}
+use Rattle.cells.specs.Cell.{within}
 use Rattle.frame.proofs.CellCodes.{between, betweens}
 use Rattle.stretch.specs.Stretch.{isDisplayed, none, stretchOf}
 

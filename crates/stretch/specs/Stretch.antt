@@ -13,7 +13,7 @@ use Rattle.registers.specs.Setting.{displayOn, rasterWords}
 use Rattle.registers.specs.Check.{checkTold}
 use Rattle.registers.specs.declared.record.Registers.{Registers}
 use Rattle.registers.specs.declared.setting.Setting.{Setting}
-use Rattle.frame.specs.Cell.{within}
+use Rattle.cells.specs.Cell.{within}
 use Rattle.frame.specs.Frame.{videoWrong}
 use Rattle.stretch.specs.declared.found.Stretch.{Stretch}
 use Rattle.stretch.specs.declared.found.Found.{Found}

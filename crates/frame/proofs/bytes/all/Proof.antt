@@ -2,7 +2,7 @@ use lib.ListN.{getD}
 use mathlib.Core.Path.{_≡_, ap, _∙_}
 use Rattle.frame.proofs.ByteCells.{one-shifted, low-bits, first-byte, rest-before, rest-room, byte-cells, byte-turn}
 use Rattle.frame.proofs.Words.{part-room}
-use Rattle.frame.specs.Ink.{bytesInk}
+use Rattle.frame.specs.inner.Ink.{bytesInk}
 use Rattle.buffers.proofs.Paints.{Paints, paint-none, paint-next, paints-painted}
 use Prim.Native.Nat.{ℕ, _*_, _-_, _%_, _≤_}
 use lib.Pow.{pow-pos}

@@ -1,5 +1,5 @@
 use mathlib.Core.Path.{refl}
-use Rattle.frame.specs.Ink.{pairIn}
+use Rattle.frame.specs.inner.Ink.{pairIn}
 use borrow.Author.Needs.{needs}
 use Rattle.frame.proofs.cursor.pair.Statement.{statement}
 use Rattle.frame.proofs.cursor.pair.Tie as tie

@@ -1,7 +1,7 @@
 use native.Mathlib.Omega.{arith}
 use borrow.Author.Needs.{needs}
 use Rattle.frame.proofs.Pointer.{pair-small, pair-stored, pair-clear}
-use Rattle.frame.specs.Ink.{pairInk}
+use Rattle.frame.specs.inner.Ink.{pairInk}
 use Prim.Native.Nat.{_+_, _-_, _≤_}
 use mathlib.Core.Logic.{⊎-elim}
 use mathlib.Core.Path.{_≡_}

@@ -1,7 +1,7 @@
 use native.Mathlib.Omega.{arith}
 use borrow.Author.Needs.{needs}
 use Rattle.frame.proofs.Words.{per-few, part-bytes, part-fits, part-turn}
-use Rattle.frame.specs.Ink.{from, wordInk}
+use Rattle.frame.specs.inner.Ink.{from, wordInk}
 use Prim.Native.Nat.{ℕ, _+_, _*_, _-_, _≤_}
 use mathlib.Core.Path.{_≡_, ap, _∙_}
 use Rattle.buffers.proofs.Paints.{Paints, paint-none, paints-painted}

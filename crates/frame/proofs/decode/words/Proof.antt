@@ -1,7 +1,7 @@
 use native.Mathlib.Omega.{arith}
 use borrow.Author.Needs.{needs}
 use Rattle.frame.proofs.Words.{part-room, per-few, word-turn}
-use Rattle.frame.specs.Ink.{from, wordsInk}
+use Rattle.frame.specs.inner.Ink.{from, wordsInk}
 use lib.ListN.{length}
 use Prim.Native.Nat.{ℕ, _+_, _*_, _-_, _≤_}
 use mathlib.Core.Path.{_≡_, ap, _∙_}

@@ -1,6 +1,6 @@
 use native.Mathlib.Omega.{arith}
 use Prim.Native.Nat.{_-_}
-use Rattle.frame.specs.Pixel.{firstWord}
+use Rattle.cells.specs.Pixel.{firstWord}
 use Rattle.registers.proofs.Words.{raster-most}
 use Rattle.frame.proofs.RasterWords.{product-fits}
 use borrow.Author.Needs.{needs}

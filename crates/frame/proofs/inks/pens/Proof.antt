@@ -1,4 +1,4 @@
-use Rattle.frame.specs.Ink.{pensOf}
+use Rattle.frame.specs.inner.Ink.{pensOf}
 use borrow.Author.Needs.{needs}
 use Rattle.frame.proofs.inks.pens.Statement.{statement}
 use Rattle.frame.proofs.inks.pens.Tie as tie

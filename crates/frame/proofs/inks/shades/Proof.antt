@@ -5,7 +5,7 @@ use borrow.Author.Needs.{needs}
 use lib.ListN.{getD}
 use Rattle.buffers.proofs.Paints.{Paints, paint-none, paint-more, paint-as, paints-painted}
 use Rattle.colours.proofs.Bounds.{shown-below}
-use Rattle.frame.specs.Ink.{shade, entryShade}
+use Rattle.frame.specs.inner.Ink.{shade, entryShade}
 use Rattle.frame.proofs.Ready.{count-is, count-most, entry-shade, entry-shade-is}
 use Rattle.frame.proofs.inks.shades.Statement.{statement}
 use Rattle.frame.proofs.inks.shades.Tie as tie

@@ -1,5 +1,5 @@
 use Rattle.frame.proofs.QuadCells.{moved-stored}
-use Rattle.frame.specs.Ink.{from, movedInk}
+use Rattle.frame.specs.inner.Ink.{from, movedInk}
 use Rattle.buffers.proofs.Paints.{Paints, paint-none, paint-more, paints-painted}
 use mathlib.Core.Path.{_≡_}
 use Prim.Native.Nat.{_+_, _-_, _≤_}

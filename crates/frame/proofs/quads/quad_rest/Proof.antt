@@ -4,7 +4,7 @@ use native.Mathlib.Omega.{arith}
 use borrow.Author.Needs.{needs}
 use lib.ListN.{length}
 use Rattle.buffers.proofs.Paints.{Paints, paint-none, paints-painted}
-use Rattle.frame.specs.Ink.{from, wordsInk}
+use Rattle.frame.specs.inner.Ink.{from, wordsInk}
 use Rattle.frame.proofs.QuadCells.{quad-turn}
 use Rattle.frame.proofs.quads.quad_rest.Statement.{statement}
 use Rattle.frame.proofs.quads.quad_rest.Tie as tie

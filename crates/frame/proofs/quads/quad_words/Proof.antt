@@ -3,7 +3,7 @@ use mathlib.Core.Path.{_≡_}
 use native.Mathlib.Omega.{arith}
 use borrow.Author.Needs.{needs}
 use Rattle.buffers.proofs.Paints.{Paints, paint-none, paint-next, paints-of, paints-painted}
-use Rattle.frame.specs.Ink.{from, wordsInk}
+use Rattle.frame.specs.inner.Ink.{from, wordsInk}
 use Rattle.frame.proofs.QuadCells.{quad-turn}
 use Rattle.frame.proofs.quads.quad_words.Statement.{statement}
 use Rattle.frame.proofs.quads.quad_words.Tie as tie

@@ -1,7 +1,7 @@
 use Rattle.frame.proofs.Rasters.{lent-row, row-room, row-turn, no-place, next-place}
 use Rattle.frame.proofs.Edges.{first-edged, edged-next}
-use Rattle.frame.specs.Made.{Edged, anew}
-use Rattle.frame.specs.Ink.{rowsInk}
+use Rattle.frame.specs.inner.Made.{Edged, anew}
+use Rattle.frame.specs.inner.Ink.{rowsInk}
 use Rattle.buffers.proofs.Paints.{Paints, paint-none, paints-painted}
 use mathlib.Core.Path.{_≡_, ap, _∙_}
 use mathlib.Core.Bool.{false}

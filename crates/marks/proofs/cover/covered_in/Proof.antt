@@ -1,7 +1,7 @@
 -- A cursor raster: nothing where it is not displayed; else after each turn the sum is that over the positions up to i.
 use Rattle.marks.proofs.Covering.{raster-out, raster-small}
 use Rattle.marks.proofs.Totals.{sum-more}
-use Rattle.marks.specs.Bright.{cursorBright, rasterBright, cursorRaster}
+use Rattle.marks.specs.inner.Bright.{cursorBright, rasterBright, cursorRaster}
 use Rattle.marks.specs.Count.{total}
 use native.Mathlib.Omega.{arith}
 use mathlib.Core.Path.{_≡_, refl}

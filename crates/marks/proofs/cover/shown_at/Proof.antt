@@ -1,5 +1,5 @@
 use Rattle.marks.proofs.Covering.{position-small, pixel-room, pixel-entry}
-use Rattle.frame.specs.Pixel.{pixel}
+use Rattle.cells.specs.Pixel.{pixel}
 use Rattle.registers.proofs.Words.{depth-most}
 use lib.ListN.{getD}
 use mathlib.Core.Path.{_∙_, ap}

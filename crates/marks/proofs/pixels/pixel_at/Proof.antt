@@ -1,6 +1,6 @@
 use Rattle.registers.proofs.Words.{depth-most}
 use Prim.Native.Nat.{_<_}
-use Rattle.frame.specs.Pixel.{pixel}
+use Rattle.cells.specs.Pixel.{pixel}
 use Rattle.buffers.proofs.Product.{product-below}
 use native.Mathlib.Omega.{arith}
 use borrow.Author.Needs.{needs}

@@ -4,7 +4,7 @@ use native.Mathlib.Omega.{arith}
 use borrow.Author.Needs.{needs}
 use lib.ListN.{getD}
 use Rattle.colours.proofs.Sixteen.{entry-of}
-use Rattle.marks.specs.Bright.{Tabled, lit}
+use Rattle.marks.specs.inner.Bright.{Tabled, lit}
 use Rattle.marks.proofs.Tabled.{tabled-more}
 use Rattle.marks.proofs.tables.bright_pixels.Statement.{statement}
 use Rattle.marks.proofs.tables.bright_pixels.Tie as tie

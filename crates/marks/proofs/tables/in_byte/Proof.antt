@@ -5,7 +5,7 @@ use Prim.Native.Nat.{_≤_, _-_, _*_, _/_, _^_}
 use mathlib.Core.Path.{_≡_, refl}
 use native.Mathlib.Omega.{arith}
 use Rattle.marks.specs.Count.{total}
-use Rattle.marks.specs.Bright.{fieldBright, byteBright}
+use Rattle.marks.specs.inner.Bright.{fieldBright, byteBright}
 use Rattle.marks.proofs.tables.in_byte.Statement.{statement}
 use Rattle.marks.proofs.tables.in_byte.Tie as tie
 

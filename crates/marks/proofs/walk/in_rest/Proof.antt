@@ -4,7 +4,7 @@ use native.Mathlib.Omega.{arith}
 use borrow.Author.Needs.{needs}
 use lib.ListN.{length}
 use Rattle.marks.specs.Count.{total}
-use Rattle.marks.specs.Bright.{wordFrom}
+use Rattle.marks.specs.inner.Bright.{wordFrom}
 use Rattle.marks.proofs.Totals.{sum-more}
 use Rattle.marks.proofs.walk.in_rest.Statement.{statement}
 use Rattle.marks.proofs.walk.in_rest.Tie as tie

@@ -4,7 +4,7 @@ use native.Mathlib.Omega.{arith}
 use borrow.Author.Needs.{needs}
 use lib.ListN.{length}
 use Rattle.marks.specs.Count.{total}
-use Rattle.marks.specs.Bright.{wordBrightAt}
+use Rattle.marks.specs.inner.Bright.{wordBrightAt}
 use Rattle.marks.proofs.Totals.{sums-more, parts-total}
 use Rattle.marks.proofs.walk.in_words.Statement.{statement}
 use Rattle.marks.proofs.walk.in_words.Tie as tie

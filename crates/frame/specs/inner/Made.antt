@@ -7,7 +7,7 @@ use lib.Dec.{eqb}
 use lib.ListN.{getD}
 use Rattle.registers.specs.declared.record.Registers.{Registers}
 use Rattle.registers.specs.declared.setting.Setting.{Setting}
-use Rattle.frame.specs.Ink.{edgeInk, shade, wordInk, quadCell}
+use Rattle.frame.specs.inner.Ink.{edgeInk, shade, wordInk, quadCell}
 
 -- A line holds raster y's cells outside the display.
 pub record Edged (s : Setting) (pens : List ℕ) (y : ℕ) (line : List ℕ) : Type 0 where

@@ -11,8 +11,8 @@ use Rattle.registers.specs.Colours.{borderOf, cursorOf}
 use Rattle.registers.specs.declared.record.Registers.{Registers}
 use Rattle.registers.specs.declared.setting.Setting.{Setting}
 use Rattle.colours.specs.Colour.{shownOf, colourOf}
-use Rattle.frame.specs.Pixel.{position, cursorPair}
-use Rattle.frame.specs.Cell.{inDisplay, inBorder, plainCode, covered, cell}
+use Rattle.cells.specs.Pixel.{position, cursorPair}
+use Rattle.cells.specs.Cell.{inDisplay, inBorder, plainCode, covered, cell}
 
 -- A rule over the places of a stretch, moved to where that stretch starts.
 unfoldable pub from : ℕ → (ℕ → ℕ) → ℕ → ℕ

@@ -13,8 +13,8 @@ use Rattle.registers.specs.Setting.{videoWords, cursorWords}
 use Rattle.registers.proofs.Accepted.{Accepted}
 use Rattle.colours.specs.Colour.{shownOf}
 use Rattle.colours.specs.Grey.{greyOf}
-use Rattle.frame.specs.Pixel.{pixel, logical}
-use Rattle.frame.specs.Cell.{plainCode, covered}
+use Rattle.cells.specs.Pixel.{pixel, logical}
+use Rattle.cells.specs.Cell.{plainCode, covered}
 use Rattle.marks.specs.Count.{total, bit}
 
 -- A pixel is bright if the grey that its entry shows is at or above the threshold.
