@@ -76,6 +76,20 @@ implied : (e a b : Bool) → (e ≡ true → a ≡ false) → (e ≡ true → b 
 implied true a b p q = rw (p refl, q refl)
 implied false a b p q = refl
 
+-- What a covered position passes: its code, the cursor's place, a pair that is not 00.
+module _ (s : Setting) (x y : ℕ) (cursor : List ℕ) where
+  covered-tests : covered s cursor x y ≡ true
+      → (leb 4 (plainCode s x y) ≡ true) × (inCursor s x y ≡ true) × (not (eqb (cursorPair s cursor y (x - s .cx .0)) 0) ≡ true)
+  unfolding covered
+  covered-tests e =
+      let shown = not (eqb (cursorPair s cursor y (x - s .cx .0)) 0) in
+      let p = and-split (leb 4 (plainCode s x y) && inCursor s x y) shown e in
+      let q = and-split (leb 4 (plainCode s x y)) (inCursor s x y) (p .0) in
+      (q .0, q .1, p .1)
+
+  pub covered-shown : covered s cursor x y ≡ true → eqb (cursorPair s cursor y (x - s .cx .0)) 0 ≡ false
+  covered-shown e = not-true (eqb (cursorPair s cursor y (x - s .cx .0)) 0) (covered-tests e .2)
+
 module _ (s : Setting) (r : Accepted s) (x y : ℕ) where
   -- The display lies in the border, and the border in no sync.
   pub display-bordered : InDisplay s x y → InBorder s x y
@@ -126,18 +140,9 @@ module _ (s : Setting) (r : Accepted s) (x y : ℕ) where
 
   -- The cursor covers where it reaches, by a pair that is not 00.
   module _ (cursor : List ℕ) where
-    covered-tests : covered s cursor x y ≡ true
-        → (leb 4 (plainCode s x y) ≡ true) × (inCursor s x y ≡ true) × (not (eqb (cursorPair s cursor y (x - s .cx .0)) 0) ≡ true)
-    unfolding covered
-    covered-tests e =
-        let shown = not (eqb (cursorPair s cursor y (x - s .cx .0)) 0) in
-        let p = and-split (leb 4 (plainCode s x y) && inCursor s x y) shown e in
-        let q = and-split (leb 4 (plainCode s x y)) (inCursor s x y) (p .0) in
-        (q .0, q .1, p .1)
-
     pub covered-reached : covered s cursor x y ≡ true → Reached s x y
     covered-reached e =
-        let t = covered-tests e in
+        let t = covered-tests s x y cursor e in
         let f = and-split (s .cursor && within (s .vcs .0) (s .vce .0) y) (within (s .cx .0) (s .cx .0 + 32) x) (t .1) in
         let d = and-split (s .cursor) (within (s .vcs .0) (s .vce .0) y) (f .0) in
         let rows = within-true (s .vcs .0) (s .vce .0) y (d .1) in
@@ -147,9 +152,6 @@ module _ (s : Setting) (r : Accepted s) (x y : ℕ) where
           border = code-border (t .0);
           cursor = record { left = columns .0; right = columns .1; above = rows .0; below = rows .1 };
         }
-
-    pub covered-shown : covered s cursor x y ≡ true → eqb (cursorPair s cursor y (x - s .cx .0)) 0 ≡ false
-    covered-shown e = not-true (eqb (cursorPair s cursor y (x - s .cx .0)) 0) (covered-tests e .2)
 
     pub reached-covered : Reached s x y → covered s cursor x y ≡ not (eqb (cursorPair s cursor y (x - s .cx .0)) 0)
     unfolding covered

@@ -15,20 +15,22 @@ use Rattle.buffers.proofs.Paints.{Paints, paint-as, paint-next, paints-of, pain
 use Rattle.registers.specs.declared.setting.Setting.{Setting}
 use Rattle.registers.proofs.Accepted.{Accepted}
 use Rattle.cells.specs.Cell.{within, inDisplay, inBorder}
+use Rattle.cells.specs.inner.Region.{InBorder}
+use Rattle.cells.proofs.Regions.{true-within, border-inside, inside-border, display-inside, inside-display, border-shown}
 use Rattle.frame.specs.inner.Ink.{blankOf, edgeInk, plainInk, linedInk}
-use Rattle.frame.specs.inner.Made.{Edged, anew}
-use Rattle.frame.proofs.Regions.{Inside, true-within, border-inside, inside-border, display-inside, inside-display, border-shown, sync-ink, blank-ink, border-ink, display-ink}
+use Rattle.frame.specs.inner.Lines.{Edged, anew}
+use Rattle.frame.proofs.PlainCells.{sync-ink, blank-ink, border-ink, display-ink}
 
 module _ (s : Setting) (pens : List ℕ) (x y : ℕ) where
   sync-edge : x < s .hs .0 → edgeInk s pens y x ≡ blankOf s y + 8192
   unfolding edgeInk
   sync-edge h = rw (lt-ltb x (s .hs .0) h)
 
-  border-edge : Accepted s → Inside (s .bs .0) (s .be .0) (s .vbs .0) (s .vbe .0) x y → edgeInk s pens y x ≡ getD pens 0 0
+  border-edge : Accepted s → InBorder s x y → edgeInk s pens y x ≡ getD pens 0 0
   unfolding edgeInk
   border-edge r i = rw (le-ltb x (s .hs .0) (border-shown s r x y i .0), inside-border s x y i)
 
-  blank-edge : s .hs .0 ≤ x → (Inside (s .bs .0) (s .be .0) (s .vbs .0) (s .vbe .0) x y → ⊥) → edgeInk s pens y x ≡ blankOf s y
+  blank-edge : s .hs .0 ≤ x → (InBorder s x y → ⊥) → edgeInk s pens y x ≡ blankOf s y
   unfolding edgeInk
   blank-edge h out = rw (le-ltb x (s .hs .0) h, is-false (inBorder s x y) (λ e. out (border-inside s x y e)))
 
@@ -43,7 +45,7 @@ module _ (s : Setting) (pens : List ℕ) (x y : ℕ) where
                     let i = border-inside s x y e in
                     border-ink s pens table video x y r i (λ d. true≢false (sym (inside-display s x y d) ∙ none)) ∙ sym (border-edge r i)
                 | inr e ↦
-                    let out : Inside (s .bs .0) (s .be .0) (s .vbs .0) (s .vbe .0) x y → ⊥ = λ i. true≢false (sym (inside-border s x y i) ∙ e) in
+                    let out : InBorder s x y → ⊥ = λ i. true≢false (sym (inside-border s x y i) ∙ e) in
                     blank-ink s pens table video x y r h out ∙ sym (blank-edge h out)
               ]
         ]

@@ -1,10 +1,8 @@
-pub mod PixelPlaces
-pub mod CellCodes
 pub mod Words
 pub mod ByteCells
 pub mod QuadCells
-pub mod Regions
-pub mod RasterWords
+pub mod PlainCells
+pub mod DisplayCells
 pub mod Edges
 pub mod Stretches
 pub mod Pointer

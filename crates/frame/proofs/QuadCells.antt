@@ -10,7 +10,7 @@ use Rattle.buffers.specs.Painted.{painted}
 use Rattle.buffers.proofs.Paints.{Paints, paint-as, paint-none, paint-more, paint-next, paints-of, paints-painted}
 use Rattle.frame.specs.inner.Ink.{from, movedInk, quadCell, wordInk, wordsInk}
 use Rattle.buffers.specs.Words.{byteOf}
-use Rattle.frame.specs.inner.Made.{Cells, Joined, Quads, Four}
+use Rattle.frame.specs.inner.Quads.{Cells, Joined, Quads, Four}
 use Rattle.frame.proofs.Words.{word-same}
 
 -- The cell that byte j of a word has, one to a byte.

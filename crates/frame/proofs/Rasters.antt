@@ -13,7 +13,7 @@ use Rattle.cells.specs.Pixel.{cursorPair}
 use Rattle.cells.specs.Cell.{covered}
 use Rattle.registers.proofs.Accepted.{Accepted}
 use Rattle.frame.specs.inner.Lent.{Lent}
-use Rattle.frame.specs.inner.Made.{Edged}
+use Rattle.frame.specs.inner.Lines.{Edged}
 use Rattle.frame.specs.inner.Ink.{from, plainInk, linedInk, ink, coverInk, rowsInk}
 use Rattle.frame.proofs.Edges.{lined-plain}
 
@@ -72,7 +72,7 @@ module _ (s : Setting) (pens table video cursor : List ℕ) (first y : ℕ) (aft
       paint-next {d = 0} (omega arith) (omega arith) so-far
       (paint-as (rowsInk s pens table video cursor first) row-same (paints-of (rw (so-far .len) room) e))
 
-pub lent-row : {s : Setting} {video cursor o p : List ℕ} (first end y at : ℕ) → Lent s (s .n .0 * (end - first)) video cursor o → length p ≡ length o
-    → first ≤ y → y < end → at ≡ (y - first) * s .n .0 → Lent s (at + s .n .0) video cursor p
+pub lent-row : {s : Setting} {video cursor o p : List ℕ} (first end y at : ℕ) → Lent s (s .n .0 * (end - first)) video cursor o
+    → length p ≡ length o → first ≤ y → y < end → at ≡ (y - first) * s .n .0 → Lent s (at + s .n .0) video cursor p
 lent-row {s} first end y at r e a h start =
-    record { accepted = r .accepted; room = omega (arith, r .room, row-room s first end y a h); video-words = r .video-words; cursor-words = r .cursor-words }
+    record { picture = r .picture; room = omega (arith, r .room, row-room s first end y a h) }

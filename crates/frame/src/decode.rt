@@ -7,7 +7,7 @@ ghost use lib.ListN.{length, replicate};
 ghost use Rattle.buffers.specs.Painted.{painted};
 ghost use Rattle.registers.proofs.Accepted.{Depth};
 ghost use Rattle.frame.specs.inner.Lent.{Parts};
-ghost use Rattle.frame.specs.inner.Made.{Tables};
+ghost use Rattle.frame.specs.inner.Quads.{Tables};
 ghost use Rattle.frame.specs.inner.Ink.{from, wordInk, wordsInk};
 
 // Pixel i of a word, `per` pixels to a byte.

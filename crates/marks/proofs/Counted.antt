@@ -12,7 +12,7 @@ use Rattle.registers.specs.declared.record.Registers.{Registers}
 use Rattle.registers.specs.declared.setting.Setting.{Setting}
 use Rattle.registers.proofs.Accepted.{Accepted, video-off}
 use Rattle.registers.proofs.Words.{video-rasters}
-use Rattle.frame.proofs.RasterWords.{four-bytes, whole-pixels}
+use Rattle.cells.proofs.RasterWords.{four-bytes, whole-pixels}
 use Rattle.marks.specs.Count.{total}
 use Rattle.marks.specs.Marks.{marksOf}
 use Rattle.marks.specs.inner.Bright.{Tabled, bright, byteBright, pixelBright, wordBrightAt, coveredBright, cursorRaster, coveredAll}

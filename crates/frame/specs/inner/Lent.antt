@@ -1,29 +1,22 @@
--- What the painters ask of what they are lent: an accepted setting, room, the words that the frame needs, whole parts of a word.
+-- What the painters ask of what they are lent, among themselves: a judged picture, room, whole parts of a word. No public promise reaches this.
 use Prim.Native.Nat.{ℕ, _+_, _*_, _≤_, _<_}
 use mathlib.Core.List.{List}
 use mathlib.Core.Path.{_≡_}
 use lib.ListN.{length}
 use Rattle.registers.proofs.Accepted.{Accepted}
-use Rattle.registers.specs.Setting.{videoWords, cursorWords}
 use Rattle.registers.specs.declared.setting.Setting.{Setting}
+use Rattle.cells.specs.inner.Known.{Picture}
 
--- Room up to the place `end`.
+-- A picture, and room up to the place `end`.
 pub record Lent (s : Setting) (end : ℕ) (video cursor out : List ℕ) : Type 0 where
-  pub accepted : Accepted s
+  pub picture : Picture s video cursor
   pub room : end ≤ length out
-  pub video-words : length video ≡ videoWords s
-  pub cursor-words : length cursor ≡ cursorWords s
 
--- The same for a raster from place `at` on with no cursor, and for the cursor alone.
-pub record RasterLent (s : Setting) (at : ℕ) (video out : List ℕ) : Type 0 where
+-- A raster from place `at` on, with one of the picture's lists, which has as many words as are needed.
+pub record RasterLent (s : Setting) (at needed : ℕ) (words out : List ℕ) : Type 0 where
   pub accepted : Accepted s
   pub room : at + s .n .0 ≤ length out
-  pub words : length video ≡ videoWords s
-
-pub record Pointed (s : Setting) (at : ℕ) (cursor out : List ℕ) : Type 0 where
-  pub accepted : Accepted s
-  pub room : at + s .n .0 ≤ length out
-  pub words : length cursor ≡ cursorWords s
+  pub enough : length words ≡ needed
 
 -- A word in parts of so many bytes, `per` pixels to a byte and no more than 8 to a part.
 pub record Parts (per bytes parts : ℕ) : Type 0 where

@@ -14,7 +14,7 @@ same-length c = search needs
 
 returns : tie.Need-returns
 returns c = let s = c .before .before .before .before .before .before .before .before .before .before .before in
-    row-law (s .args .s) (s .pre .0 .accepted) _ _ _ _ _ _ _ _ _ _ (s .pre .0 .room) (s .pre .1) (c .before .before .before .before .before .before .plain .ensures) (c .before .before .cover .ensures)
+    row-law (s .args .s) (s .pre .0 .picture .accepted) _ _ _ _ _ _ _ _ _ _ (s .pre .0 .room) (s .pre .1) (c .before .before .before .before .before .before .plain .ensures) (c .before .before .cover .ensures)
 
 pub row-spec : {M : Type 1} → statement M
 row-spec = tie.close (tie.spec plain-requires cover-requires same-length returns)

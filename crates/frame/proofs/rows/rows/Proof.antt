@@ -1,6 +1,6 @@
 use Rattle.frame.proofs.Rasters.{lent-row, row-room, row-turn, no-place, next-place}
 use Rattle.frame.proofs.Edges.{first-edged, edged-next}
-use Rattle.frame.specs.inner.Made.{Edged, anew}
+use Rattle.frame.specs.inner.Lines.{Edged, anew}
 use Rattle.frame.specs.inner.Ink.{rowsInk}
 use Rattle.buffers.proofs.Paints.{Paints, paint-none, paints-painted}
 use mathlib.Core.Path.{_≡_, ap, _∙_}
@@ -28,7 +28,7 @@ loop-holds c = let s = c .before .before .before .before in
     (omega arith, s .pre .1, no-place (s .args .first .0) (s .args .s .n .0), paint-none _ _, first-edged (s .args .s) _ _ (s .args .first .0))
 
 renew-requires : tie.Need-renew-requires Inv-loop μ-loop
-renew-requires c κs = (c .before .before .before .before .before .before .before .before .pre .0 .accepted, c .before .before .before .loop .inv .4)
+renew-requires c κs = (c .before .before .before .before .before .before .before .before .pre .0 .picture .accepted, c .before .before .before .loop .inv .4)
 
 row-requires : tie.Need-row-requires Inv-loop μ-loop
 row-requires c κs = let s = c .before .before .before .before .before .before .before .before .before .before .before in

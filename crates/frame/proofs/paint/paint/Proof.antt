@@ -1,7 +1,7 @@
 use Rattle.frame.proofs.Ready.{cells-right, rows-law}
 use borrow.Author.Needs.{needs}
-use Rattle.frame.proofs.inks.paint.Statement.{statement}
-use Rattle.frame.proofs.inks.paint.Tie as tie
+use Rattle.frame.proofs.paint.paint.Statement.{statement}
+use Rattle.frame.proofs.paint.paint.Tie as tie
 
 slice-aggregate-ready : tie.Need-slice-aggregate-ready
 slice-aggregate-ready c = search needs
@@ -23,7 +23,7 @@ same-length c = search needs
 
 returns : tie.Need-returns
 returns c = let s = c .before .before .before .before .before .before .before .before .before .before .before .before .before .before .before .before .before in
-    rows-law (s .args .g) (s .args .s) _ _ _ _ _ _ (s .pre .0 .accepted .depth) (c .before .before .before .before .before .before .before .pens .ensures) (c .before .before .before .before .before .before .before .before .before .before .before .before .ready .ensures) _ _ (s .pre .0 .room) (c .before .before .rows .ensures)
+    rows-law (s .args .g) (s .args .s) _ _ _ _ _ _ (s .pre .0 .picture .accepted .depth) (c .before .before .before .before .before .before .before .pens .ensures) (c .before .before .before .before .before .before .before .before .before .before .before .before .ready .ensures) _ _ (s .pre .0 .room) (c .before .before .rows .ensures)
 
 pub paint-spec : {M : Type 1} → statement M
 paint-spec =
