@@ -1,4 +1,3 @@
 pub mod Stretches
-pub mod Pixels
 pub mod Answers
 pub mod Unique

@@ -55,8 +55,11 @@ returns-4 c =
     let s = left .before .before .before .before .before .before in
     let here = raster-displayed _ _ _ (s .pre .1) _ (left .if1 .left) (right .if2 .left) in
     let reached = raster-reached _ _ _ (s .pre .1) _ (s .pre .0) (s .pre .2) here in
-    let some = λ e. test .if3 .left (test .before .pair-at .ensures ∙ sym (pair-is _ _ _ _) ∙ e) in
-    (c .shown-at .ensures .0 ∙ cursor-shown _ _ _ _ (s .pre .0 .accepted) _ _ here reached some, c .shown-at .ensures .1)
+    let shown = c .shown-at .ensures in (
+      shown .0 ∙ cursor-shown _ _ _ _ (s .pre .0 .accepted) _ _ here reached
+          (λ e. test .if3 .left (test .before .pair-at .ensures ∙ sym (pair-is _ _ _ _) ∙ e)),
+      shown .1,
+    )
 
 pub covered-at-spec : {M : Type 1} → statement M
 covered-at-spec =
