@@ -6,7 +6,7 @@ use lib.ListN.{length}
 use lib.Dec.{eqb, leb}
 use Rattle.buffers.specs.Pick.{pick}
 use Rattle.buffers.specs.Values.{valuesFrom}
-use Rattle.refusals.specs.Table.{Told, given, refused}
+use Rattle.refusals.specs.Table.{Why, Told, given, refused}
 use Rattle.registers.specs.declared.record.Registers.{Registers}
 use Rattle.registers.specs.declared.setting.Setting.{Setting}
 use Rattle.cells.specs.Picture.{pictureTold}

@@ -3,6 +3,7 @@ use crate::number::put_number;
 ghost use Prim.Native.Nat.{_+_, _≤_};
 ghost use lib.ListN.{length};
 ghost use Rattle.buffers.specs.Put.{Put};
+ghost use Rattle.refusals.specs.Table.{why};
 ghost use Rattle.runs.specs.Text.{labelled, pairLine, refusedLine, headLine};
 
 // Letters stored from a place on; the place after them.
@@ -43,7 +44,7 @@ pub fn put_pair(out: &mut [u8], label: &[u8], a: u32, b: u32, end: &[u8]) -> usi
 // `refused`, number, detail.
 pub fn put_refused(out: &mut [u8], number: u32, detail: u32) -> usize
     requires { ⌜ 64 ≤ length (now out) ⌝ }
-    ensures { λ r. ⌜ Put (now (out .entry)) (now (out .exit)) 0 (refusedLine number detail) r ⌝ }
+    ensures { λ r. ⌜ Put (now (out .entry)) (now (out .exit)) 0 (refusedLine (why number detail)) r ⌝ }
 {
     put_pair(out, b"refused ", number, detail, b"\n")
 }
