@@ -3,7 +3,7 @@
 use Prim.Native.Nat.{ℕ}
 use mathlib.Core.Bool.{true, false, not}
 use mathlib.Core.List.{List, [], _∷_, _++_}
-use mathlib.Core.Path.{_≡_, sym, _∙_, ap}
+use mathlib.Core.Path.{_≡_, refl, sym, _∙_, ap}
 use borrow.Author.Tests.{not-false, eqb-true, eq-eqb}
 use lib.Dec.{eqb}
 use lib.ListN.{length}
@@ -34,6 +34,11 @@ right-words : (s : Setting) (video cursor : List ℕ) → length video ≡ video
 right-words s video cursor p q = rw (eq-eqb (length video) (videoWords s) p, eq-eqb (length cursor) (cursorWords s) q)
 
 module _ (g : Registers) (video cursor : List ℕ) where
+  -- What a picture tells is its whole table judged.
+  pub picture-told : pictureTold g video cursor ≡ judged (pictureTable g video cursor) (settingOf g)
+  unfolding pictureTold
+  picture-told = refl
+
   -- First the setting, then 11.
   picture-then : pictureTold g video cursor ≡ andThen (checkTold g) (λ s. judged (row 11 (wordsWrong s video cursor) 0 ∷ []) s)
   unfolding pictureTold checkTold

@@ -9,15 +9,12 @@ use Rattle.registers.specs.Setting.{settingOf}
 use Rattle.registers.specs.Check.{settingTable, checkTold}
 use Rattle.registers.specs.Sound.{soundTable, soundTold}
 use Rattle.registers.specs.declared.record.Registers.{Registers}
-use Rattle.frame.specs.Frame.{wordsWrong, frameTable, frameTold, rasterTable, rasterTold}
-use Rattle.marks.specs.Marks.{marksOf, marksTold}
-use Rattle.stretch.specs.Stretch.{stretchOf, stretchTable, stretchTold}
 use Rattle.sound.specs.Play.{playTold}
 use Rattle.sound.specs.Pair.{sidesOf, pairTold}
 use Rattle.plates.specs.Plate.{sectionsOf, plateLength}
 use Rattle.plates.specs.Read.{readTold, copyTold}
 use Rattle.plates.specs.Write.{writeTold}
-use Rattle.claims.specs.Rows.{frameRows, rasterRows, marksRows, stretchRows, playRows, pairRows, readRows, copyRows, writeRows}
+use Rattle.claims.specs.Rows.{playRows, pairRows, readRows, copyRows, writeRows}
 use Rattle.claims.proofs.Tables.{and-then-judged}
 
 pub load-told : (words : List ℕ) → loadTold words ≡ judged (loadTable words) tt
@@ -32,24 +29,6 @@ module _ (g : Registers) where
   pub sound-told : soundTold g ≡ judged (soundTable g) tt
   unfolding soundTold
   sound-told = refl
-
-  module _ (video cursor : List ℕ) where
-    pub frame-told : (room : ℕ) → frameTold g video cursor room ≡ judged (frameRows g video cursor room) tt
-    unfolding frameTold checkTold
-    frame-told room = and-then-judged (settingOf g) (settingTable g) (λ s. frameTable s video cursor room) (λ s. tt)
-
-    pub raster-told : (y room : ℕ) → rasterTold g video cursor y room ≡ judged (rasterRows g video cursor y room) tt
-    unfolding rasterTold checkTold
-    raster-told y room = and-then-judged (settingOf g) (settingTable g) (λ s. rasterTable s video cursor y room) (λ s. tt)
-
-    pub marks-told : (threshold : ℕ) → marksTold g video cursor threshold ≡ judged (marksRows g video cursor) (marksOf g (settingOf g) video cursor threshold)
-    unfolding marksTold checkTold
-    marks-told threshold =
-        and-then-judged (settingOf g) (settingTable g) (λ s. row 11 (wordsWrong s video cursor) 0 ∷ []) (λ s. marksOf g s video cursor threshold)
-
-  pub stretch-told : (video : List ℕ) (y : ℕ) → stretchTold g video y ≡ judged (stretchRows g video y) (stretchOf (settingOf g) y)
-  unfolding stretchTold checkTold
-  stretch-told video y = and-then-judged (settingOf g) (settingTable g) (λ s. stretchTable s video y) (λ s. stretchOf s y)
 
   pub play-told : (words places : ℕ) → playTold g words places ≡ judged (playRows g words places) tt
   unfolding playTold soundTold

@@ -21,7 +21,9 @@ use Rattle.colours.specs.Colour.{colourOf}
 use Rattle.cells.specs.Pixel.{pixel, position, logical}
 use Rattle.cells.specs.Cell.{inDisplay, covered}
 use Rattle.frame.specs.Frame.{cells}
-use Rattle.frame.proofs.CellCodes.{InDisplay, displayed}
+use Rattle.cells.specs.inner.Region.{InDisplay}
+use Rattle.cells.proofs.Pictures.{picture-checked}
+use Rattle.cells.proofs.Regions.{display-inside, display-on}
 use Rattle.cells.proofs.PixelPlaces.{pixel-below}
 use Rattle.claims.specs.Shown.{Distinct, Alike, uncovered, SamePixels, frameIn}
 use Rattle.claims.specs.Exhibited.{onePixel}
@@ -36,19 +38,19 @@ use Rattle.claims.proofs.Lists.{one-size, one-words, one-here, one-othe
 
 uncovered-displayed : (s : Setting) (cursor : List ℕ) (x y : ℕ) → uncovered s cursor x y ≡ true → InDisplay s x y
 unfolding uncovered
-uncovered-displayed s cursor x y u = displayed s x y (and-split (inDisplay s x y) (not (covered s cursor x y)) u .0)
+uncovered-displayed s cursor x y u = display-inside s x y (and-split (inDisplay s x y) (not (covered s cursor x y)) u .0)
 
 -- A displayed position's place in the frame.
 module _ (s : Setting) (a : Accepted s) (x y : ℕ) (here : InDisplay s x y) where
   place-below : y * s .n .0 + x < cells s
   place-below =
-      let d = a .display (here .on) in
-      let wide : x < s .n .0 = omega (arith, here .x-de, a .de-be, a .be-n) in
-      let high : y + 1 ≤ s .v .0 = omega (arith, here .y-vde, d .vde-vbe, d .vbe-v) in
+      let d = a .display (display-on s x y here) in
+      let wide : x < s .n .0 = omega (arith, here .right, a .de-be, a .be-n) in
+      let high : y + 1 ≤ s .v .0 = omega (arith, here .below, d .vde-vbe, d .vbe-v) in
       omega (arith, mul-le-mul-right (s .n .0) high, mul-comm (s .n .0) (s .v .0))
 
   in-line : x < s .n .0
-  in-line = omega (arith, here .x-de, a .de-be, a .be-n)
+  in-line = omega (arith, here .right, a .de-be, a .be-n)
 
 -- The setting's depth is the record's.
 distinct-pixels : (g : Registers) → Distinct g → (p q : ℕ) → p < 2 ^ settingOf g .depth → q < 2 ^ settingOf g .depth
@@ -117,7 +119,7 @@ pub frame-tells-pixels : {g : Registers} {cursor video other : List ℕ} → Dis
     → Right g video cursor (run .before) → Right g other cursor (run′ .before)
     → (frameIn (settingOf g) (run .after) ≡ frameIn (settingOf g) (run′ .after)) ↔ SamePixels (settingOf g) cursor video other
 frame-tells-pixels distinct κs a x s p κs′ a′ x′ s′ p′ on on′ r r′ =
-    tells (r .accepted) (r .room) (r′ .room) (framed κs a x s p on r) (framed κs′ a′ x′ s′ p′ on′ r′) distinct
+    tells (picture-checked g video cursor (settingOf g) (r .picture)) (r .room) (r′ .room) (framed κs a x s p on r) (framed κs′ a′ x′ s′ p′ on′ r′) distinct
 
 -- Pixels of the exhibited lists have the same colour at every position.
 like-colours : (g : Registers) (i j x y : ℕ) (a : Accepted (settingOf g)) → InDisplay (settingOf g) x y → Alike g i j → (v w : ℕ)

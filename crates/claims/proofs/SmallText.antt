@@ -16,6 +16,7 @@ use Rattle.registers.specs.Small.{smallWords, smallRegisters}
 use Rattle.registers.specs.declared.setting.Setting.{Setting}
 use Rattle.cells.specs.Pixel.{pixel}
 use Rattle.cells.specs.Cell.{plainCode, covered, code, cell}
+use Rattle.cells.specs.Picture.{pictureTold}
 use Rattle.frame.specs.Frame.{frameCell, rasterCell}
 use Rattle.marks.specs.Count.{total}
 use Rattle.marks.specs.Marks.{marksOf}
@@ -23,7 +24,7 @@ use Rattle.plates.specs.Plate.{plateOf}
 use Rattle.plates.specs.Read.{readTold}
 use Rattle.runs.specs.Decimal.{digits, decimal}
 use Rattle.runs.specs.Runs.{codeOf, run}
-use Rattle.runs.specs.Sheet.{registerWords, videoList, cursorList, registersOf, takenTold, pictureTold, sheetTold}
+use Rattle.runs.specs.Sheet.{registerWords, videoList, cursorList, registersOf, takenTold, sheetTold}
 use Rattle.runs.specs.Text.{labelled, headLine, rasterLine, pictureHead, pictureLine, lineAt, firstLines, textOf}
 use Rattle.runs.proofs.Spread.{Codes, _of_, spread, Apart, runsText, line-spread}
 use Rattle.claims.specs.Marked.{smallVideo}

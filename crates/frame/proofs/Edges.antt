@@ -102,7 +102,9 @@ module _ (s : Setting) (r : Accepted s) (pens o : List ℕ) (y : ℕ) (room : s 
   filled a b v fits same e = paint-as (edgeInk s pens y) same (paints-of fits e)
 
   synced : (p : List ℕ) → p ≡ painted o 0 (s .hs .0) (λ k. blankOf s y + 8192) → Paints 0 o p 0 (s .hs .0) (edgeInk s pens y)
-  synced p e = filled 0 (s .hs .0) (blankOf s y + 8192) (omega (arith, r .hs-bs, r .bs-ds, r .ds-de, r .de-be, r .be-n)) (λ x a b. sym (sync-edge s pens x y b)) e
+  synced p e =
+      filled 0 (s .hs .0) (blankOf s y + 8192) (omega (arith, r .hs-bs, r .bs-ds, r .ds-de, r .de-be, r .be-n))
+      (λ x a b. sym (sync-edge s pens x y b)) e
 
   pub blank-line : (p m : List ℕ) (empty : ℕ) → within (s .vbs .0) (s .vbe .0) y ≡ false → empty ≡ blankOf s y
       → p ≡ painted o 0 (s .hs .0) (λ k. empty + 8192) → m ≡ painted p (s .hs .0) (s .n .0) (λ k. empty)
@@ -131,7 +133,8 @@ module _ (s : Setting) (r : Accepted s) (pens o : List ℕ) (y : ℕ) (room : s 
       (simp e-empty at h) in
       paints-painted {d = 0} room
       (paint-next {d = 0} (omega arith) (omega (arith, r .be-n))
-      (paint-next {d = 0} (omega arith) (omega (arith, r .bs-ds, r .ds-de, r .de-be)) (paint-next {d = 0} (omega arith) (omega (arith, r .hs-bs)) sync before) border) after)
+      (paint-next {d = 0} (omega arith) (omega (arith, r .bs-ds, r .ds-de, r .de-be))
+      (paint-next {d = 0} (omega arith) (omega (arith, r .hs-bs)) sync before) border) after)
 
   pub edged-line : (m : List ℕ) → m ≡ painted o 0 (s .n .0) (edgeInk s pens y) → Edged s pens y m
   edged-line m e = record { held = λ x h. paints-of {d = 0} room e .on x (omega arith) h }

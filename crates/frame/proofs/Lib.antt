@@ -8,6 +8,7 @@ pub mod Stretches
 pub mod Pointer
 pub mod Rasters
 pub mod Ready
+pub mod Told
 pub mod Calls
 pub mod RasterThree
 pub mod Unique

@@ -3,15 +3,14 @@ use Prim.Native.Nat.{ℕ, _+_, _*_, _-_, _<_, _≤_, min}
 use mathlib.Core.Bool.{Bool, true, false, _&&_, not, true≢false}
 use mathlib.Core.Path.{_≡_, refl, sym, _∙_}
 use mathlib.Core.List.{List}
-use mathlib.Core.Logic.{inl, inr}
 use native.Mathlib.Omega.{arith}
-use borrow.Author.Tests.{lt-ltb, le-ltb, le-leb, ne-eqb}
-use lib.Dec.{ltb, leb, eqb}
+use borrow.Author.Tests.{ne-eqb}
+use lib.Dec.{eqb}
 use lib.ListN.{length, getD, set}
 use Rattle.buffers.specs.Pick.{pick}
 use Rattle.buffers.specs.Painted.{painted}
 use Rattle.buffers.proofs.Tests.{and-split, and-join}
-use Rattle.buffers.proofs.Split.{true-or-false, is-false}
+use Rattle.buffers.proofs.Split.{is-false}
 use Rattle.buffers.proofs.Paints.{Paints, paint-more, paint-skip, paint-within, paints-of, paints-painted}
 use Rattle.registers.specs.Setting.{cursorWords}
 use Rattle.registers.specs.declared.setting.Setting.{Setting}

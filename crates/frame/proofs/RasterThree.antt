@@ -7,7 +7,6 @@ use Rattle.registers.specs.Record.{reserved, storedOf}
 use Rattle.registers.specs.Load.{applied}
 use Rattle.registers.specs.Lowest.{lowest}
 use Rattle.registers.specs.Setting.{settingOf, videoWords, cursorWords}
-use Rattle.registers.specs.Check.{checkTold}
 use Rattle.registers.specs.Small.{smallRegisters}
 use Rattle.cells.specs.Pixel.{pixel, cursorPair}
 use Rattle.cells.specs.Cell.{plainCode, covered, code, cell}
@@ -17,5 +16,6 @@ pub raster-three : rasterLeaves smallRegisters (0x76543210 ∷ []) [] 3 (replica
     ≡ replicate 4 8192 ++ replicate 3 0 ++ replicate 4 36608
     ++ (40960 ∷ 40961 ∷ 40962 ∷ 40963 ∷ 40964 ∷ 40965 ∷ 40966 ∷ 40967 ∷ [])
     ++ replicate 4 36608 ++ replicate 9 0 ++ (7 ∷ [])
-unfolding eachFrom painted reserved storedOf applied lowest settingOf videoWords cursorWords checkTold pixel cursorPair plainCode covered code cell rasterCell rasterTold rasterLeaves
+unfolding eachFrom painted reserved storedOf applied lowest settingOf videoWords cursorWords
+    pixel cursorPair plainCode covered code cell rasterCell rasterTold rasterLeaves
 raster-three = refl

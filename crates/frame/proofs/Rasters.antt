@@ -17,7 +17,8 @@ use Rattle.frame.specs.inner.Lines.{Edged}
 use Rattle.frame.specs.inner.Ink.{from, plainInk, linedInk, ink, coverInk, rowsInk}
 use Rattle.frame.proofs.Edges.{lined-plain}
 
-module _ (s : Setting) (r : Accepted s) (pens line table video cursor o p q : List ℕ) (at y : ℕ) (room : at + s .n .0 ≤ length o) (edged : Edged s pens y line) where
+module _ (s : Setting) (r : Accepted s) (pens line table video cursor o p q : List ℕ) (at y : ℕ) (room : at + s .n .0 ≤ length o)
+    (edged : Edged s pens y line) where
   -- Cover over plain cells is the rule.
   pub row-law : p ≡ painted o at (at + s .n .0) (from at (linedInk s line table video y))
       → q ≡ painted p at (at + s .n .0) (coverInk s pens cursor y at p)
@@ -27,7 +28,9 @@ module _ (s : Setting) (r : Accepted s) (pens line table video cursor o p q : Li
       (record {
         len = over .len ∙ under .len;
         low = λ k h. over .low k h ∙ under .low k h;
-        on = λ k a b. over .on k a b ∙ ap (λ (n : ℕ). pick (covered s cursor (k - at) y) (getD pens (cursorPair s cursor y (k - at - s .cx .0)) 0) n) (under .on k a b);
+        on = λ k a b.
+            over .on k a b
+            ∙ ap (λ (n : ℕ). pick (covered s cursor (k - at) y) (getD pens (cursorPair s cursor y (k - at - s .cx .0)) 0) n) (under .on k a b);
         high = λ k h. over .high k h ∙ under .high k h;
       })
     where

@@ -1,4 +1,4 @@
--- The rule over cells made ready is the cell rule.
+-- The rule over cells made ready is the cell rule: the table holds each pixel's display cell, the pens the border's and the cursor's.
 use Prim.Native.Nat.{ℕ, zero, suc, _+_, _*_, _-_, _/_, _%_, _^_, _<_, _≤_}
 use mathlib.Core.Bool.{Bool, true, false}
 use mathlib.Core.Path.{_≡_, refl, sym, ap, _∙_}
@@ -163,7 +163,8 @@ module _ (g : Registers) (s : Setting) (pens table video cursor o p : List ℕ) 
   same : (x y : ℕ) → ink s pens table video cursor y x ≡ cell g s video cursor x y
   same x y = rw pens-is (ink-cell g s table video cursor x y depth right)
 
-  pub rows-law : (first m : ℕ) → m ≤ length o → p ≡ painted o 0 m (rowsInk s pens table video cursor first) → p ≡ painted o 0 m (rowsCell g s video cursor first)
+  pub rows-law : (first m : ℕ) → m ≤ length o → p ≡ painted o 0 m (rowsInk s pens table video cursor first)
+      → p ≡ painted o 0 m (rowsCell g s video cursor first)
   unfolding rowsInk rowsCell
   rows-law first m room e =
       paints-painted {d = 0} {f = rowsCell g s video cursor first} room

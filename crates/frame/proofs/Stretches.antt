@@ -61,7 +61,8 @@ module _ (s : Setting) (r : Accepted s) (line table video : List ℕ) (at y : �
       let right = copied (s .de .0) (s .n .0) (rw (shown .len, left .len) room) (λ x a b i. omega (arith, i .right)) g in
       rw (add-zero at) at
       (paints-painted {d = 0} room
-      (paint-next {d = 0} (omega (arith, r .ds-de)) (omega (arith, r .de-be, r .be-n)) (paint-next {d = 0} (omega arith) (omega (arith, r .ds-de)) left shown) right))
+      (paint-next {d = 0} (omega (arith, r .ds-de)) (omega (arith, r .de-be, r .be-n))
+      (paint-next {d = 0} (omega arith) (omega (arith, r .ds-de)) left shown) right))
 
 pub blank-most : (s : Setting) (y : ℕ) → blankOf s y ≤ 16384
 blank-most s y = elim (lt-or-le y (s .vs .0)) [ inl h ↦ rw (lt-ltb y (s .vs .0) h) (omega arith) | inr h ↦ rw (le-ltb y (s .vs .0) h) (omega arith) ]

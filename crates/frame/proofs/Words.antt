@@ -1,15 +1,14 @@
 -- Cells of words, a byte at a time: which cells of the table of bytes the pixels of a word and of a list have.
 use Prim.Native.Nat.{ℕ, _+_, _*_, _-_, _/_, _%_, _^_, _<_, _≤_}
-use mathlib.Core.Path.{_≡_, refl, ap}
+use mathlib.Core.Path.{_≡_, refl}
 use mathlib.Core.List.{List}
 use mathlib.Core.Logic.{inl, inr}
-use native.Mathlib.Nat.{mod-lt, mul-le-mul-right, mul-zero, div-lt-iff-lt-mul}
+use native.Mathlib.Nat.{mod-lt, mul-le-mul-right, div-lt-iff-lt-mul}
 use native.Mathlib.Omega.{arith}
 use lib.ListN.{length, getD, replicate, length-replicate}
 use lib.Pow.{shr-shr}
 use Rattle.buffers.specs.Painted.{painted}
 use Rattle.buffers.proofs.Paints.{Paints, paint-next, paint-as, paints-of}
-use Rattle.buffers.proofs.Split.{lt-or-le}
 use Rattle.registers.proofs.Accepted.{Depth}
 use Rattle.frame.specs.inner.Lent.{Parts}
 use Rattle.frame.specs.inner.Ink.{from, cellIn, wordInk, wordsInk}
@@ -56,7 +55,12 @@ module _ (table cells : List ℕ) (w per bytes at j k : ℕ) (start : k ≡ at +
   part-same i p q =
       let e : i - at ≡ j * bytes * per + (i - k) = omega arith in
       let bits : 8 * (j * bytes + (i - k) / per) ≡ 8 * (j * bytes) + 8 * ((i - k) / per) = omega arith in
-      rw (past-bytes (i - at) per (j * bytes) (i - k) e some, past-pixels (i - at) per (j * bytes) (i - k) e, bits, ← shr-shr w (8 * (j * bytes)) (8 * ((i - k) / per)))
+      rw (
+        past-bytes (i - at) per (j * bytes) (i - k) e some,
+        past-pixels (i - at) per (j * bytes) (i - k) e,
+        bits,
+        ← shr-shr w (8 * (j * bytes)) (8 * ((i - k) / per)),
+      )
       (read-at (i - k) (omega arith))
 
   -- One part more is painted.

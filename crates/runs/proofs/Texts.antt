@@ -22,7 +22,7 @@ use Rattle.cells.proofs.Pictures.{given-picture}
 use Rattle.frame.specs.Frame.{rasterCell, rasterLeaves}
 use Rattle.frame.proofs.Calls.{raster-held}
 use Rattle.marks.specs.Marks.{marksOf, marksTold, marksSays}
-use Rattle.marks.proofs.Answers.{marks-told}
+use Rattle.marks.proofs.Answers.{marks-counted}
 use Rattle.marks.specs.declared.answer.Marks.{Marks}
 use Rattle.marks.specs.declared.answer.Marks.the-variants as marks
 use Rattle.runs.specs.Runs.{lineOf}
@@ -37,7 +37,7 @@ module _ (g : Registers) (video cursor : List ℕ) (s : Setting) (e : pictureTol
   picture-accepted = given-picture g video cursor s e .accepted
 
   pub marks-given : (threshold : ℕ) → marksTold g video cursor threshold ≡ given (marksOf g s video cursor threshold)
-  marks-given threshold = marks-told g video cursor threshold s e
+  marks-given threshold = marks-counted g video cursor threshold s e
 
   -- the cells of a raster, as they stand in lent memory
   pub raster-values : (y : ℕ) (o cells : List ℕ) → y < s .v .0 → s .n .0 ≤ length o → cells ≡ rasterLeaves g video cursor y o

@@ -1,3 +1,4 @@
 pub mod Stretches
+pub mod Told
 pub mod Answers
 pub mod Unique

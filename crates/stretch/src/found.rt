@@ -1,7 +1,7 @@
 // Where a raster's words stand in the caller's list.
+use refusals::Refusal;
 use registers::check::Checked;
 use registers::record::Registers;
-use refusals::Refusal;
 use registers::setting::Setting;
 use registers::units::Rasters;
 ghost use mathlib.Core.Path.{_≡_};

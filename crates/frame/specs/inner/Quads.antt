@@ -25,4 +25,3 @@ pub record Tables (d : ℕ) (table quads : List ℕ) : Type 0 where
 -- Four cells added: those of a word's bytes.
 pub record Four (quads : List ℕ) (w x : ℕ) : Type 0 where
   pub cell : (j : ℕ) → j < 4 → quadCell x j ≡ wordInk quads w 1 j
-

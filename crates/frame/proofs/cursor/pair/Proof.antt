@@ -1,3 +1,4 @@
+-- Two bits of a cursor word: the shift and the remainder are the rule's own.
 use mathlib.Core.Path.{refl}
 use Rattle.frame.specs.inner.Ink.{pairIn}
 use borrow.Author.Needs.{needs}

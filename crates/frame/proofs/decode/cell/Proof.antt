@@ -1,3 +1,4 @@
+-- A pixel's cell: the byte that has it is one of the word's four, and its cells lie in the table.
 use native.Mathlib.Omega.{arith}
 use mathlib.Core.Path.{refl}
 use borrow.Author.Needs.{needs}

@@ -1,3 +1,4 @@
+-- The lowest pixels of a word: after each turn the first i of them are read.
 use native.Mathlib.Omega.{arith}
 use borrow.Author.Needs.{needs}
 use Rattle.frame.specs.inner.Ink.{wordInk}

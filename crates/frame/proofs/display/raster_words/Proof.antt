@@ -1,3 +1,4 @@
+-- A displayed raster's words: as many as the rule says, few enough for an index.
 use native.Mathlib.Omega.{arith}
 use Rattle.cells.proofs.RasterWords.{bits-most}
 use Rattle.registers.proofs.Words.{depth-most, raster-words}

@@ -1,3 +1,4 @@
+-- Cell after cell: after each turn those up to k are stored.
 use native.Mathlib.Omega.{arith}
 use borrow.Author.Needs.{needs}
 use Rattle.frame.proofs.Words.{cell-stored}

@@ -1,3 +1,4 @@
+-- Cursor raster after cursor raster: after each turn the sum is that over the rasters below j.
 use Rattle.registers.proofs.Words.{cursor-most}
 use Rattle.marks.proofs.Covering.{covered-words}
 use Rattle.marks.proofs.Totals.{sum-more}

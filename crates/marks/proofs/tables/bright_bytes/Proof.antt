@@ -1,3 +1,4 @@
+-- Byte after byte: after each turn the first k entries hold how many of a byte's pixels are bright.
 use Prim.Native.Nat.{_≤_, _-_}
 use mathlib.Core.Path.{_≡_, refl}
 use native.Mathlib.Omega.{arith}

@@ -1,3 +1,4 @@
+-- Pixel after pixel: after each turn the first k entries tell whether the pixel is bright.
 use Prim.Native.Nat.{_≤_, _-_, _%_}
 use mathlib.Core.Path.{refl, _∙_, ap}
 use native.Mathlib.Omega.{arith}
@@ -51,7 +52,9 @@ returns c =
     let l = c .before .loop in
     record {
       len = l .inv .1 .len;
-      on = λ k m. l .inv .1 .on k (omega arith) ∙ ap (λ e. lit e (s .args .depth) (s .args .threshold) k) (entry-of (s .args .g) _ k (c .before .before .entries .ensures));
+      on = λ k m.
+          l .inv .1 .on k (omega arith)
+          ∙ ap (λ e. lit e (s .args .depth) (s .args .threshold) k) (entry-of (s .args .g) _ k (c .before .before .entries .ensures));
     }
 
 pub bright-pixels-spec : {M : Type 1} → statement M

@@ -1,3 +1,4 @@
+-- The pixels of a byte: after each turn the sum is that over the j lowest, and the rest holds the others.
 use native.Mathlib.Nat.{div-le-self}
 use Rattle.registers.proofs.Words.{depth-least, depth-most}
 use Rattle.marks.proofs.Masks.{bits-below, byte-start, byte-rest, byte-more, byte-most}

@@ -1,3 +1,4 @@
+-- Word after word from a place on: after each turn the sum is that over the first k of them.
 use Prim.Native.Nat.{_≤_, _-_, _*_}
 use mathlib.Core.Path.{_≡_, refl}
 use native.Mathlib.Omega.{arith}
