@@ -22,7 +22,7 @@ use Rattle.cells.specs.Pixel.{pixel, position, logical}
 use Rattle.cells.specs.Cell.{inDisplay, covered}
 use Rattle.frame.specs.Frame.{cells}
 use Rattle.cells.specs.inner.Region.{InDisplay}
-use Rattle.cells.proofs.Pictures.{picture-checked}
+use Rattle.cells.proofs.Pictures.{picture-checked, picture-given}
 use Rattle.cells.proofs.Regions.{display-inside, display-on}
 use Rattle.cells.proofs.PixelPlaces.{pixel-below}
 use Rattle.claims.specs.Shown.{Distinct, Alike, uncovered, SamePixels, frameIn}
@@ -118,7 +118,7 @@ pub frame-tells-pixels : {g : Registers} {cursor video other : List ℕ} → Dis
     → Every call.frame λ run. Every call.frame λ run′. On g video cursor run → On g other cursor run′
     → Right g video cursor (run .before) → Right g other cursor (run′ .before)
     → (frameIn (settingOf g) (run .after) ≡ frameIn (settingOf g) (run′ .after)) ↔ SamePixels (settingOf g) cursor video other
-frame-tells-pixels distinct κs a x s p κs′ a′ x′ s′ p′ on on′ r r′ =
+frame-tells-pixels {g} {cursor} {video} distinct κs a x s p κs′ a′ x′ s′ p′ on on′ r r′ =
     tells (picture-checked g video cursor (settingOf g) (r .picture)) (r .room) (r′ .room) (framed κs a x s p on r) (framed κs′ a′ x′ s′ p′ on′ r′) distinct
 
 -- Pixels of the exhibited lists have the same colour at every position.
@@ -178,7 +178,7 @@ frame-confuses g cursor i j x y good size alike u =
       other-words = one-words own a x y here j (like .2);
       one-frame = λ κs b r s p κs′ b′ r′ s′ p′ on on′ room room′.
           same-frame good room room′
-          (framed κs b r s p on (record { accepted = good; video-words = size-i; cursor-words = size; room = room }))
-          (framed κs′ b′ r′ s′ p′ on′ (record { accepted = good; video-words = size-j; cursor-words = size; room = room′ }))
+          (framed κs b r s p on (record { picture = picture-given g (onePixel own x y i) cursor own good size-i size; room = room }))
+          (framed κs′ b′ r′ s′ p′ on′ (record { picture = picture-given g (onePixel own x y j) cursor own good size-j size; room = room′ }))
           (λ v w t. like-colours g i j x y a here alike v w);
     }

@@ -17,6 +17,7 @@ use Rattle.registers.specs.declared.setting.Setting.{Setting}
 use Rattle.cells.specs.Pixel.{pixel}
 use Rattle.cells.specs.Cell.{plainCode, covered, code, cell}
 use Rattle.cells.specs.Picture.{pictureTold}
+use Rattle.cells.proofs.Pictures.{picture-given}
 use Rattle.frame.specs.Frame.{frameCell, rasterCell}
 use Rattle.marks.specs.Count.{total}
 use Rattle.marks.specs.Marks.{marksOf}
@@ -55,8 +56,8 @@ unfolding reserved storedOf applied lowest settingOf checkTold
 small-setting = refl
 
 small-picture : pictureTold smallRegisters smallVideo [] ≡ given small
-unfolding reserved storedOf applied settingOf videoWords cursorWords pictureTold
-small-picture = rw small-setting
+unfolding reserved storedOf applied settingOf videoWords cursorWords
+small-picture = picture-given smallRegisters smallVideo [] small small-setting refl refl
 
 small-taken : takenTold smallPlate ≡ given tt
 unfolding reserved plateOf bytesOf wordsOf registerWords leading loadTold readTold takenTold
