@@ -16,9 +16,13 @@ use Rattle.registers.specs.Sound.{soundTable, soundTold}
 use Rattle.registers.specs.declared.record.Registers.{Registers}
 use Rattle.registers.proofs.Told.{load-told, check-told, sound-told}
 use Rattle.colours.specs.Colour.{colourOf}
-use Rattle.frame.specs.Frame.{cells, frameCell, frameTold, frameLeaves, rasterCell, rasterTold, rasterLeaves}
+use Rattle.cells.specs.Picture.{pictureTable}
+use Rattle.frame.specs.Frame.{cells, frameCell, frameTable, frameTold, frameLeaves, rasterCell, rasterTable, rasterTold, rasterLeaves}
+use Rattle.frame.proofs.Told.{frame-told, raster-told}
+use Rattle.marks.proofs.Told.{marks-told}
+use Rattle.stretch.proofs.Told.{stretch-told}
 use Rattle.marks.specs.Marks.{marksOf, marksTold}
-use Rattle.stretch.specs.Stretch.{stretchOf, stretchTold}
+use Rattle.stretch.specs.Stretch.{stretchOf, stretchTable, stretchTold}
 use Rattle.sound.specs.Values.{counterAfter}
 use Rattle.sound.specs.Play.{playTable, playTold, playedOf}
 use Rattle.sound.specs.Pair.{sidesOf, pairTable}
@@ -38,12 +42,11 @@ use Rattle.vombelishi.proofs.Pictured.{placeOf}
 use Rattle.sound.proofs.Told.{play-told, pair-told}
 use Rattle.plates.proofs.Told.{read-told, copy-told, write-told}
 use Rattle.claims.specs.Calls.{Every, numbers, settingNumbers, ByTable, Kept}
-use Rattle.claims.specs.Rows.{frameRows, rasterRows, marksRows, stretchRows}
 use Rattle.claims.specs.CRows.{ofRecord, roomFor, textRows}
 use Rattle.claims.specs.CViews as c
 use Rattle.claims.specs.CViews.{LoadRun, CheckRun, CheckSoundRun, FrameRun, RasterRun, WordsRun, MarksRun, ColourRun}
 use Rattle.claims.specs.CViews.{SoundRun, PairRun, FileRun, WriteRun, TextRun}
-use Rattle.claims.proofs.Judged.{frame-told, raster-told, marks-told, stretch-told}
+
 use Rattle.claims.proofs.CCodes.{no-rows, plain, fits-after, setting-fits, sound-fits, load-fits}
 use Rattle.claims.proofs.CCodes.{by-code, kept-code, kept-under, record-told, record-fits, record-code, room-code}
 
@@ -63,18 +66,18 @@ module _ (values written : List ℕ) where
 
   module _ (video cursor : List ℕ) where
     pub vom-frame-numbers : (places : ℕ)
-        → numbers (ofRecord values written λ g. frameRows g video cursor places) ≡ 13 ∷ 3 ∷ 4 ∷ 5 ∷ 6 ∷ 7 ∷ 8 ∷ 9 ∷ 11 ∷ 13 ∷ []
+        → numbers (ofRecord values written λ g. frameTable g video cursor places) ≡ 13 ∷ 3 ∷ 4 ∷ 5 ∷ 6 ∷ 7 ∷ 8 ∷ 9 ∷ 11 ∷ 13 ∷ []
     vom-frame-numbers places = refl
 
     pub vom-raster-numbers : (y places : ℕ)
-        → numbers (ofRecord values written λ g. rasterRows g video cursor y places) ≡ 13 ∷ 3 ∷ 4 ∷ 5 ∷ 6 ∷ 7 ∷ 8 ∷ 9 ∷ 11 ∷ 12 ∷ 13 ∷ []
+        → numbers (ofRecord values written λ g. rasterTable g video cursor y places) ≡ 13 ∷ 3 ∷ 4 ∷ 5 ∷ 6 ∷ 7 ∷ 8 ∷ 9 ∷ 11 ∷ 12 ∷ 13 ∷ []
     vom-raster-numbers y places = refl
 
-    pub vom-marks-numbers : numbers (ofRecord values written λ g. marksRows g video cursor) ≡ 13 ∷ 3 ∷ 4 ∷ 5 ∷ 6 ∷ 7 ∷ 8 ∷ 9 ∷ 11 ∷ []
+    pub vom-marks-numbers : numbers (ofRecord values written λ g. pictureTable g video cursor) ≡ 13 ∷ 3 ∷ 4 ∷ 5 ∷ 6 ∷ 7 ∷ 8 ∷ 9 ∷ 11 ∷ []
     vom-marks-numbers = refl
 
   pub vom-raster-words-numbers : (video : List ℕ) (y places : ℕ)
-      → numbers ((ofRecord values written λ g. stretchRows g video y) ++ roomFor 2 places) ≡ 13 ∷ 3 ∷ 4 ∷ 5 ∷ 6 ∷ 7 ∷ 8 ∷ 9 ∷ 11 ∷ 12 ∷ 13 ∷ []
+      → numbers ((ofRecord values written λ g. stretchTable g video y) ++ roomFor 2 places) ≡ 13 ∷ 3 ∷ 4 ∷ 5 ∷ 6 ∷ 7 ∷ 8 ∷ 9 ∷ 11 ∷ 12 ∷ 13 ∷ []
   vom-raster-words-numbers video y places = refl
 
   pub vom-colour-numbers : numbers (ofRecord values written λ g. []) ≡ 13 ∷ []
@@ -140,13 +143,13 @@ vom-check-sound-refuses κs a x s p =
 
 -- Pictures.
 pub vom-frame-refuses : Every c.frame λ run.
-    ByTable (run .answer) (ofRecord (run .values) (run .written) λ g. frameRows g (run .video) (run .cursor) (length (run .before))) tt
+    ByTable (run .answer) (ofRecord (run .values) (run .written) λ g. frameTable g (run .video) (run .cursor) (length (run .before))) tt
     × Kept (run .answer) (run .before) (run .after)
 unfolding frameCall frameCallLeaves frameLeaves
 vom-frame-refuses κs a x s p =
     let run : FrameRun = c.frame .seen κs a x s in
     let tells : Registers → Told (Unit {0}) = λ g. frameTold g (run .video) (run .cursor) (length (run .before)) in (
-      record-code (run .values) (run .written) tells (λ g. frameRows g (run .video) (run .cursor) (length (run .before))) (λ g. tt)
+      record-code (run .values) (run .written) tells (λ g. frameTable g (run .video) (run .cursor) (length (run .before))) (λ g. tt)
           (λ g. fits-after (setting-fits g) (plain (omega arith) (plain (omega arith) no-rows)))
           (λ g. frame-told g (run .video) (run .cursor) (length (run .before))) (p .0),
       kept-under (recordTold (run .values) (run .written)) tells (λ g. frameLeaves g (run .video) (run .cursor) (run .before))
@@ -154,13 +157,13 @@ vom-frame-refuses κs a x s p =
     )
 
 pub vom-raster-refuses : Every c.raster λ run.
-    ByTable (run .answer) (ofRecord (run .values) (run .written) λ g. rasterRows g (run .video) (run .cursor) (run .raster) (length (run .before))) tt
+    ByTable (run .answer) (ofRecord (run .values) (run .written) λ g. rasterTable g (run .video) (run .cursor) (run .raster) (length (run .before))) tt
     × Kept (run .answer) (run .before) (run .after)
 unfolding rasterCall rasterCallLeaves rasterLeaves
 vom-raster-refuses κs a x s p =
     let run : RasterRun = c.raster .seen κs a x s in
     let tells : Registers → Told (Unit {0}) = λ g. rasterTold g (run .video) (run .cursor) (run .raster) (length (run .before)) in (
-      record-code (run .values) (run .written) tells (λ g. rasterRows g (run .video) (run .cursor) (run .raster) (length (run .before))) (λ g. tt)
+      record-code (run .values) (run .written) tells (λ g. rasterTable g (run .video) (run .cursor) (run .raster) (length (run .before))) (λ g. tt)
           (λ g. fits-after (setting-fits g) (plain (omega arith) (plain (omega arith) (plain (omega arith) no-rows))))
           (λ g. raster-told g (run .video) (run .cursor) (run .raster) (length (run .before))) (p .0),
       kept-under (recordTold (run .values) (run .written)) tells (λ g. rasterLeaves g (run .video) (run .cursor) (run .raster) (run .before))
@@ -169,12 +172,12 @@ vom-raster-refuses κs a x s p =
 
 pub vom-raster-words-refuses : Every c.rasterWords λ run.
     ByTable (run .answer)
-    ((ofRecord (run .values) (run .written) λ g. stretchRows g (run .video) (run .raster)) ++ roomFor 2 (length (run .before))) tt
+    ((ofRecord (run .values) (run .written) λ g. stretchTable g (run .video) (run .raster)) ++ roomFor 2 (length (run .before))) tt
     × Kept (run .answer) (run .before) (run .after)
 unfolding wordsCall foundTold
 vom-raster-words-refuses κs a x s p =
     let run : WordsRun = c.rasterWords .seen κs a x s in
-    let own : Registers → List Row = λ g. stretchRows g (run .video) (run .raster) in (
+    let own : Registers → List Row = λ g. stretchTable g (run .video) (run .raster) in (
       room-code 2 (length (run .before)) placeOf (ofRecord (run .values) (run .written) own)
           (stretchOf (settingOf (recordOf (run .values) (run .written))) (run .raster))
           (record-fits (run .values) (run .written) own
@@ -186,13 +189,13 @@ vom-raster-words-refuses κs a x s p =
     )
 
 pub vom-marks-refuses : Every c.marks λ run.
-    ByTable (run .answer) (ofRecord (run .values) (run .written) λ g. marksRows g (run .video) (run .cursor)) tt
+    ByTable (run .answer) (ofRecord (run .values) (run .written) λ g. pictureTable g (run .video) (run .cursor)) tt
     × Kept (run .answer) (run .before) (run .after)
 unfolding marksCall
 vom-marks-refuses κs a x s p =
     let run : MarksRun = c.marks .seen κs a x s in (
       record-code (run .values) (run .written) (λ g. marksTold g (run .video) (run .cursor) (run .threshold))
-          (λ g. marksRows g (run .video) (run .cursor)) (λ g. marksOf g (settingOf g) (run .video) (run .cursor) (run .threshold))
+          (λ g. pictureTable g (run .video) (run .cursor)) (λ g. marksOf g (settingOf g) (run .video) (run .cursor) (run .threshold))
           (λ g. fits-after (setting-fits g) (plain (omega arith) no-rows))
           (λ g. marks-told g (run .video) (run .cursor) (run .threshold)) (p .0),
       kept-code (marksCall (run .values) (run .written) (run .video) (run .cursor) (run .threshold)) (λ u. cellBy u (run .before))

@@ -6,8 +6,8 @@ use Rattle.registers.specs.Load.{applied}
 use Rattle.registers.specs.Lowest.{lowest}
 use Rattle.registers.specs.Setting.{settingOf, videoWords, cursorWords}
 use Rattle.registers.specs.Check.{checkTold}
-use Rattle.frame.specs.Pixel.{pixel, cursorPair}
-use Rattle.frame.specs.Cell.{plainCode, covered, code, cell}
+use Rattle.cells.specs.Pixel.{pixel, cursorPair}
+use Rattle.cells.specs.Cell.{plainCode, covered, code, cell}
 use Rattle.frame.specs.Frame.{frameTold, rasterCell, rasterTold, rasterLeaves}
 use Rattle.sound.specs.Amplitude.{amplitudeOf, signedOf, valueOf}
 use Rattle.sound.specs.Pair.{pairTold}

@@ -11,9 +11,9 @@ use Rattle.registers.specs.declared.record.Registers.{Registers}
 use Rattle.registers.specs.declared.setting.Setting.{Setting}
 use Rattle.registers.proofs.Accepted.{Accepted}
 use Rattle.colours.specs.Colour.{colourOf}
-use Rattle.frame.specs.Pixel.{logical}
-use Rattle.frame.specs.Cell.{inDisplay, covered, code, cell}
-use Rattle.frame.proofs.CellCodes.{code-five, plain-five, cell-colour}
+use Rattle.cells.specs.Pixel.{logical}
+use Rattle.cells.specs.Cell.{inDisplay, covered, code, cell}
+use Rattle.cells.proofs.Regions.{code-five, plain-five, cell-colour}
 use Rattle.claims.specs.Shown.{uncovered}
 
 swapped : (a b : Bool) → not a && b ≡ (b && not a)
@@ -28,7 +28,7 @@ module _ (g : Registers) (s : Setting) (a : Accepted s) (cursor : List ℕ) (x y
   unfolding uncovered
   five-uncovered =
       code-five s x y cursor
-      ∙ ap (λ (t : Bool). not (covered s cursor x y) && t) (plain-five s x y a)
+      ∙ ap (λ (t : Bool). not (covered s cursor x y) && t) (plain-five s a x y)
       ∙ swapped (covered s cursor x y) (inDisplay s x y)
 
   pub same-cell : (video other : List ℕ)

@@ -7,7 +7,8 @@ pub use Rattle.registers.proofs.Unique.{one-video-words, one-cursor-words, one-
 pub use Rattle.registers.proofs.Unique.{one-cursor-on, one-setting, one-stereo, one-sound-frequency, one-load-word, one-load, one-check}
 pub use Rattle.registers.proofs.Unique.{one-check-sound}
 pub use Rattle.colours.proofs.Unique.{one-shown, one-colour, one-entries, one-grey, one-pin}
-pub use Rattle.frame.proofs.Unique.{one-words-wrong, one-frame, one-raster}
+pub use Rattle.cells.proofs.Unique.{one-words-wrong, one-judge}
+pub use Rattle.frame.proofs.Unique.{one-frame, one-raster}
 pub use Rattle.marks.proofs.Unique.{one-marks}
 pub use Rattle.stretch.proofs.Unique.{one-find, one-raster-words, one-raster-words-answer}
 pub use Rattle.sound.proofs.Unique.{one-pair, one-play}

@@ -7,7 +7,7 @@ use mathlib.Core.Logic.{_↔_}
 use native.Mathlib.Omega.{arith}
 use lib.ListN.{length, getD, take}
 use lib.Seq.{sets}
-use borrow.Author.Tests.{eq-eqb, ltb-false}
+use borrow.Author.Tests.{ltb-false}
 use Rattle.buffers.specs.Painted.{painted}
 use Rattle.buffers.proofs.Paints.{Paints, paints-of}
 use Rattle.buffers.proofs.Words.{Below}
@@ -17,9 +17,10 @@ use Rattle.registers.specs.Setting.{settingOf, videoWords, cursorWords}
 use Rattle.registers.specs.Rules.{EveryRule}
 use Rattle.registers.specs.declared.record.Registers.{Registers}
 use Rattle.registers.proofs.Exactly.{exactly}
-use Rattle.frame.specs.Frame.{cells, frameCell, rasterCell, rasterTold, rasterLeaves}
+use Rattle.frame.specs.Frame.{cells, frameCell, rasterCell, rasterTable, rasterTold, rasterLeaves}
 use Rattle.marks.specs.Count.{bit, countBelow}
-use Rattle.marks.specs.Marks.{isMark, marksOf, marksTold}
+use Rattle.marks.specs.Marks.{isMark, marksOf}
+use Rattle.marks.proofs.Answers.{marks-counted}
 use Rattle.marks.proofs.Totals.{total-as}
 use Rattle.sound.proofs.Places.{EveryPlace, every-place}
 use Rattle.plates.specs.Plate.{mostBytes, plateLength}
@@ -56,7 +57,7 @@ pub each-raster-cell : Every call.raster λ run. run .answer ≡ given tt
     → Rastered (run .registers) (run .video) (run .cursor) (run .raster) (run .before) (run .after)
 each-raster-cell κs a x s p e =
     let run : RasterRun = call.raster .seen κs a x s in
-    let rows = rasterRows (run .registers) (run .video) (run .cursor) (run .raster) (length (run .before)) in
+    let rows = rasterTable (run .registers) (run .video) (run .cursor) (run .raster) (length (run .before)) in
     let passes = raster-refuses κs a x s p .0 .given-when .0 e in
     raster-held (run .registers) (run .video) (run .cursor) (run .raster) (run .before) (run .after)
     (ltb-false (length (run .before)) (settingOf (run .registers) .n .0) (passed 13 rows passes)) (sym (p .0) ∙ e) (p .1)
@@ -69,22 +70,12 @@ marks-in g video cursor threshold {after = after} f =
     total-as _ (λ k. bit (isMark threshold (getD after k 0))) (cells (settingOf g))
     (λ k l. ap (λ (c : ℕ). bit (isMark threshold c)) (sym (f .each k l)))
 
-marks-given : (g : Registers) (video cursor : List ℕ) (threshold : ℕ) {before : List ℕ} → Right g video cursor before
-    → marksTold g video cursor threshold ≡ given (marksOf g (settingOf g) video cursor threshold)
-unfolding marksTold
-marks-given g video cursor threshold r =
-    rw (
-      r .accepted,
-      eq-eqb (length video) (videoWords (settingOf g)) (r .video-words),
-      eq-eqb (length cursor) (cursorWords (settingOf g)) (r .cursor-words),
-    )
-
 pub marks-of-the-frame : Every call.marks λ count. Every call.frame λ run.
     On (count .registers) (count .video) (count .cursor) run → Right (count .registers) (count .video) (count .cursor) (run .before)
     → count .answer ≡ given (countBelow (λ k. isMark (count .threshold) (getD (run .after) k 0)) (cells (settingOf (count .registers))))
 marks-of-the-frame κs a x s p κs′ a′ x′ s′ p′ on r =
     let count : MarksRun = call.marks .seen κs a x s in
-    p ∙ marks-given (count .registers) (count .video) (count .cursor) (count .threshold) r
+    p ∙ marks-counted (count .registers) (count .video) (count .cursor) (count .threshold) (settingOf (count .registers)) (r .picture)
     ∙ ap given (marks-in (count .registers) (count .video) (count .cursor) (count .threshold) (framed κs′ a′ x′ s′ p′ on r))
 
 -- Each sound value, at every place of lent memory, and the counter afterwards.

@@ -6,7 +6,6 @@ pub mod Lists
 pub mod Picture
 pub mod Either
 pub mod Tables
-pub mod Judged
 pub mod Refusals
 pub mod Words
 pub mod CCodes

@@ -14,10 +14,11 @@ use Rattle.registers.specs.Setting.{rasterWords, videoWords}
 use Rattle.registers.specs.declared.setting.Setting.{Setting}
 use Rattle.registers.proofs.Accepted.{Depth, Accepted}
 use Rattle.registers.proofs.Words.{depth-least, raster-bits, video-rasters}
-use Rattle.frame.specs.Pixel.{pixel, position}
-use Rattle.frame.proofs.CellCodes.{InDisplay}
-use Rattle.frame.proofs.RasterWords.{fills-word}
-use Rattle.frame.proofs.Words.{pixel-field}
+use Rattle.cells.specs.Pixel.{pixel, position}
+use Rattle.cells.specs.inner.Region.{InDisplay}
+use Rattle.cells.proofs.PixelPlaces.{pixel-field}
+use Rattle.cells.proofs.RasterWords.{fills-word}
+use Rattle.cells.proofs.Regions.{display-on}
 use Rattle.claims.specs.Exhibited.{onePixel}
 use Rattle.claims.proofs.Bits.{by-cases}
 
@@ -98,8 +99,8 @@ module _ (words q d n j p : ℕ) (fills : n * d ≡ 32) (here : q < words) (fits
 module _ (s : Setting) (a : Accepted s) (x y : ℕ) (here : InDisplay s x y) where
   position-below : position s x y < (s .vde .0 - s .vds .0) * (s .de .0 - s .ds .0)
   position-below =
-      let row : y - s .vds .0 + 1 ≤ s .vde .0 - s .vds .0 = omega (arith, here .vds-y, here .y-vde) in
-      let col : x - s .ds .0 < s .de .0 - s .ds .0 = omega (arith, here .ds-x, here .x-de) in
+      let row : y - s .vds .0 + 1 ≤ s .vde .0 - s .vds .0 = omega (arith, here .above, here .below) in
+      let col : x - s .ds .0 < s .de .0 - s .ds .0 = omega (arith, here .left, here .right) in
       omega (arith, mul-le-mul-right (s .de .0 - s .ds .0) row)
 
   position-bits : position s x y * s .depth < videoWords s * 32
@@ -107,7 +108,7 @@ module _ (s : Setting) (a : Accepted s) (x y : ℕ) (here : InDisplay s x y) whe
       let w = s .de .0 - s .ds .0 in
       let h = s .vde .0 - s .vds .0 in
       let all : h * w * s .depth ≡ videoWords s * 32 =
-      rw (video-rasters s a (here .on), mul-assoc h w (s .depth), mul-assoc h (rasterWords s) 32, raster-bits s a) in
+      rw (video-rasters s a (display-on s x y here), mul-assoc h w (s .depth), mul-assoc h (rasterWords s) 32, raster-bits s a) in
       omega (arith, all, mul-lt-mul-of-pos-right position-below (depth-least (a .depth)))
 
   abbrev fields : ℕ

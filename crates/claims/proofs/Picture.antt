@@ -18,11 +18,13 @@ use Rattle.registers.specs.declared.record.Registers.{Registers}
 use Rattle.registers.specs.declared.setting.Setting.{Setting}
 use Rattle.registers.proofs.Accepted.{Accepted, accepted}
 use Rattle.colours.specs.Colour.{colourOf}
-use Rattle.frame.specs.Pixel.{pixel, position, logical}
-use Rattle.frame.specs.Cell.{inDisplay, covered}
+use Rattle.cells.specs.Pixel.{pixel, position, logical}
+use Rattle.cells.specs.Cell.{inDisplay, covered}
 use Rattle.frame.specs.Frame.{cells}
-use Rattle.frame.proofs.CellCodes.{InDisplay, displayed}
-use Rattle.frame.proofs.PixelPlaces.{pixel-below}
+use Rattle.cells.specs.inner.Region.{InDisplay}
+use Rattle.cells.proofs.Pictures.{picture-checked, picture-given}
+use Rattle.cells.proofs.Regions.{display-inside, display-on}
+use Rattle.cells.proofs.PixelPlaces.{pixel-below}
 use Rattle.claims.specs.Shown.{Distinct, Alike, uncovered, SamePixels, frameIn}
 use Rattle.claims.specs.Exhibited.{onePixel}
 use Rattle.claims.specs.Calls.{Every}
@@ -36,19 +38,19 @@ use Rattle.claims.proofs.Lists.{one-size, one-words, one-here, one-othe
 
 uncovered-displayed : (s : Setting) (cursor : List ℕ) (x y : ℕ) → uncovered s cursor x y ≡ true → InDisplay s x y
 unfolding uncovered
-uncovered-displayed s cursor x y u = displayed s x y (and-split (inDisplay s x y) (not (covered s cursor x y)) u .0)
+uncovered-displayed s cursor x y u = display-inside s x y (and-split (inDisplay s x y) (not (covered s cursor x y)) u .0)
 
 -- A displayed position's place in the frame.
 module _ (s : Setting) (a : Accepted s) (x y : ℕ) (here : InDisplay s x y) where
   place-below : y * s .n .0 + x < cells s
   place-below =
-      let d = a .display (here .on) in
-      let wide : x < s .n .0 = omega (arith, here .x-de, a .de-be, a .be-n) in
-      let high : y + 1 ≤ s .v .0 = omega (arith, here .y-vde, d .vde-vbe, d .vbe-v) in
+      let d = a .display (display-on s x y here) in
+      let wide : x < s .n .0 = omega (arith, here .right, a .de-be, a .be-n) in
+      let high : y + 1 ≤ s .v .0 = omega (arith, here .below, d .vde-vbe, d .vbe-v) in
       omega (arith, mul-le-mul-right (s .n .0) high, mul-comm (s .n .0) (s .v .0))
 
   in-line : x < s .n .0
-  in-line = omega (arith, here .x-de, a .de-be, a .be-n)
+  in-line = omega (arith, here .right, a .de-be, a .be-n)
 
 -- The setting's depth is the record's.
 distinct-pixels : (g : Registers) → Distinct g → (p q : ℕ) → p < 2 ^ settingOf g .depth → q < 2 ^ settingOf g .depth
@@ -116,8 +118,8 @@ pub frame-tells-pixels : {g : Registers} {cursor video other : List ℕ} → Dis
     → Every call.frame λ run. Every call.frame λ run′. On g video cursor run → On g other cursor run′
     → Right g video cursor (run .before) → Right g other cursor (run′ .before)
     → (frameIn (settingOf g) (run .after) ≡ frameIn (settingOf g) (run′ .after)) ↔ SamePixels (settingOf g) cursor video other
-frame-tells-pixels distinct κs a x s p κs′ a′ x′ s′ p′ on on′ r r′ =
-    tells (r .accepted) (r .room) (r′ .room) (framed κs a x s p on r) (framed κs′ a′ x′ s′ p′ on′ r′) distinct
+frame-tells-pixels {g} {cursor} {video} distinct κs a x s p κs′ a′ x′ s′ p′ on on′ r r′ =
+    tells (picture-checked g video cursor (settingOf g) (r .picture)) (r .room) (r′ .room) (framed κs a x s p on r) (framed κs′ a′ x′ s′ p′ on′ r′) distinct
 
 -- Pixels of the exhibited lists have the same colour at every position.
 like-colours : (g : Registers) (i j x y : ℕ) (a : Accepted (settingOf g)) → InDisplay (settingOf g) x y → Alike g i j → (v w : ℕ)
@@ -176,7 +178,7 @@ frame-confuses g cursor i j x y good size alike u =
       other-words = one-words own a x y here j (like .2);
       one-frame = λ κs b r s p κs′ b′ r′ s′ p′ on on′ room room′.
           same-frame good room room′
-          (framed κs b r s p on (record { accepted = good; video-words = size-i; cursor-words = size; room = room }))
-          (framed κs′ b′ r′ s′ p′ on′ (record { accepted = good; video-words = size-j; cursor-words = size; room = room′ }))
+          (framed κs b r s p on (record { picture = picture-given g (onePixel own x y i) cursor own good size-i size; room = room }))
+          (framed κs′ b′ r′ s′ p′ on′ (record { picture = picture-given g (onePixel own x y j) cursor own good size-j size; room = room′ }))
           (λ v w t. like-colours g i j x y a here alike v w);
     }

@@ -12,7 +12,6 @@ use Rattle.buffers.specs.Put.{Put}
 use Rattle.refusals.specs.Table.{Why, Told, given, refused, Row, row, judged, andThen, First}
 use Rattle.registers.specs.Load.{loadTable, loadTold}
 use Rattle.registers.specs.Setting.{settingOf}
-use Rattle.registers.specs.Check.{settingTable, checkTold}
 use Rattle.registers.specs.Sound.{soundTable, soundTold}
 use Rattle.refusals.proofs.Tables.{and-then-judged}
 use Rattle.registers.specs.declared.record.Registers.{Registers}
@@ -22,6 +21,8 @@ use Rattle.plates.specs.Plate.{sectionsOf}
 use Rattle.plates.specs.Read.{readTable, readTold}
 use Rattle.plates.proofs.Told.{read-told}
 use Rattle.runs.specs.Sheet.{mostInput, registerWords, videoList, cursorList, soundList, registersOf, takenTold, pictureTold, sheetTold}
+use Rattle.cells.specs.Picture.{pictureTable, pictureTold}
+use Rattle.cells.proofs.Pictures.{picture-told}
 use Rattle.runs.specs.Text.{refusedLine, pictureLine, lineFor, lineAt, firstLines, textOf}
 use Rattle.runs.specs.Strip.{pictureStrip, stripFor, stripAt, firstStrips, pictureOf}
 use Rattle.runs.specs.Wave.{waveTold, waveOf, refusalFor, waveRefusal, waveBlock, blockFor, blockAt}
@@ -29,18 +30,14 @@ use Rattle.claims.specs.Calls.{Every, numbers, ByTable}
 use Rattle.claims.specs.Views as call
 use Rattle.claims.specs.Views.{PieceRun}
 use Rattle.claims.specs.Pieces.{Stored, StoredBy}
-use Rattle.claims.specs.Rows.{marksRows, takenRows, sheetRows, waveRows}
-use Rattle.claims.proofs.Tables.{by-table}
+use Rattle.claims.specs.Rows.{takenRows, sheetRows, waveRows}
+use Rattle.claims.proofs.Tables.{by-table, and-then-judged}
 
 pub wave-numbers : (file : List ℕ) → numbers (waveRows file) ≡ 15 ∷ 14 ∷ 1 ∷ 2 ∷ 3 ∷ 10 ∷ []
 wave-numbers file = refl
 
 pub sheet-numbers : (file : List ℕ) → numbers (sheetRows file) ≡ 15 ∷ 14 ∷ 1 ∷ 2 ∷ 3 ∷ 4 ∷ 5 ∷ 6 ∷ 7 ∷ 8 ∷ 9 ∷ 11 ∷ []
 sheet-numbers file = refl
-
-picture-told : (g : Registers) (video cursor : List ℕ) → pictureTold g video cursor ≡ judged (marksRows g video cursor) (settingOf g)
-unfolding pictureTold checkTold
-picture-told g video cursor = and-then-judged (settingOf g) (settingTable g) (λ s. row 11 (wordsWrong s video cursor) 0 ∷ []) (λ s. s)
 
 -- A table told before another.
 before : {A B : Type 0} (t : Told A) (u : Told B) (a : A) (b : B) (rows more : List Row) → t ≡ judged rows a → u ≡ judged more b
@@ -62,7 +59,7 @@ unfolding sheetTold
 sheet-table file =
     by-table _ (sheetRows file)
     (before (takenTold file) (pictureTold (registersOf file) (videoList file) (cursorList file)) tt (settingOf (registersOf file)) (takenRows file)
-    (marksRows (registersOf file) (videoList file) (cursorList file)) (taken-told file)
+    (pictureTable (registersOf file) (videoList file) (cursorList file)) (taken-told file)
     (picture-told (registersOf file) (videoList file) (cursorList file)))
 
 -- A plate is played, or refused, by the table of its sound.

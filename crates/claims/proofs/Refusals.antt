@@ -1,24 +1,27 @@
 -- Demand 1: for each public call that can refuse, the numbers it can answer, exactly when, and in which order.
 -- Each is said of every run that the call's own promise permits; refused, it leaves lent memory and records as they were.
 use Prim.Native.Nat.{ℕ, _*_, _%_}
-use mathlib.Core.Path.{_≡_, refl, _∙_, ap}
-use mathlib.Core.Bool.{Bool, true, false}
+use mathlib.Core.Path.{_≡_, refl, sym, _∙_, ap}
 use mathlib.Core.List.{List, [], _∷_}
 use lib.ListN.{length}
 use lib.Seq.{sets}
-use Rattle.buffers.specs.Pick.{pick}
 use Rattle.buffers.specs.Painted.{painted}
 use Rattle.refusals.specs.Table.{refused, Row, judged}
 use Rattle.registers.specs.Record.{storedOf, wordTable}
+use Rattle.refusals.proofs.Tables.{judged-then}
 use Rattle.registers.specs.Load.{applied, loadTable}
 use Rattle.registers.specs.Setting.{settingOf}
 use Rattle.registers.specs.Check.{settingTable}
 use Rattle.registers.specs.Sound.{soundTable}
 use Rattle.registers.specs.declared.record.Registers.{Registers}
 use Rattle.registers.proofs.Told.{load-told, check-told, sound-told}
-use Rattle.frame.specs.Frame.{cells, frameCell, frameLeaves, rasterCell, rasterLeaves}
+use Rattle.frame.specs.Frame.{cells, frameCell, frameLeaves, rasterCell, rasterLeaves, frameTable, rasterTable}
+use Rattle.cells.specs.Picture.{pictureTable}
+use Rattle.frame.proofs.Told.{frame-told, raster-told}
+use Rattle.marks.proofs.Told.{marks-told}
+use Rattle.stretch.proofs.Told.{stretch-told}
 use Rattle.marks.specs.Marks.{marksOf}
-use Rattle.stretch.specs.Stretch.{stretchOf, stretchTold, answerTold}
+use Rattle.stretch.specs.Stretch.{stretchOf, stretchTable, stretchTold, answerTold}
 use Rattle.stretch.specs.declared.found.Stretch.{Stretch}
 use Rattle.sound.specs.Values.{counterAfter}
 use Rattle.sound.specs.Play.{playedOf, playTable}
@@ -31,9 +34,7 @@ use Rattle.plates.proofs.Told.{read-told, copy-told, write-told}
 use Rattle.claims.specs.Calls.{Every, numbers, settingNumbers, ByTable, Kept}
 use Rattle.claims.specs.Views as call
 use Rattle.claims.specs.Views.{LoadRun, FrameRun, RasterRun, MarksRun, StretchRun, PlayRun, PairRun, CopyRun, WriteRun}
-use Rattle.claims.specs.Rows.{frameRows, rasterRows, marksRows, stretchRows}
 use Rattle.claims.proofs.Tables.{by-table, kept}
-use Rattle.claims.proofs.Judged.{frame-told, raster-told, marks-told, stretch-told}
 
 -- The numbers of each table, in its order.
 pub load-word-numbers : (word : ℕ) → numbers (wordTable word) ≡ 2 ∷ []
@@ -45,17 +46,17 @@ load-numbers words = refl
 pub check-numbers : (g : Registers) → numbers (settingTable g) ≡ settingNumbers
 check-numbers g = refl
 
-pub frame-numbers : (g : Registers) (video cursor : List ℕ) (room : ℕ) → numbers (frameRows g video cursor room) ≡ 3 ∷ 4 ∷ 5 ∷ 6 ∷ 7 ∷ 8 ∷ 9 ∷ 11 ∷ 13 ∷ []
+pub frame-numbers : (g : Registers) (video cursor : List ℕ) (room : ℕ) → numbers (frameTable g video cursor room) ≡ 3 ∷ 4 ∷ 5 ∷ 6 ∷ 7 ∷ 8 ∷ 9 ∷ 11 ∷ 13 ∷ []
 frame-numbers g video cursor room = refl
 
 pub raster-numbers : (g : Registers) (video cursor : List ℕ) (y room : ℕ)
-    → numbers (rasterRows g video cursor y room) ≡ 3 ∷ 4 ∷ 5 ∷ 6 ∷ 7 ∷ 8 ∷ 9 ∷ 11 ∷ 12 ∷ 13 ∷ []
+    → numbers (rasterTable g video cursor y room) ≡ 3 ∷ 4 ∷ 5 ∷ 6 ∷ 7 ∷ 8 ∷ 9 ∷ 11 ∷ 12 ∷ 13 ∷ []
 raster-numbers g video cursor y room = refl
 
-pub marks-numbers : (g : Registers) (video cursor : List ℕ) → numbers (marksRows g video cursor) ≡ 3 ∷ 4 ∷ 5 ∷ 6 ∷ 7 ∷ 8 ∷ 9 ∷ 11 ∷ []
+pub marks-numbers : (g : Registers) (video cursor : List ℕ) → numbers (pictureTable g video cursor) ≡ 3 ∷ 4 ∷ 5 ∷ 6 ∷ 7 ∷ 8 ∷ 9 ∷ 11 ∷ []
 marks-numbers g video cursor = refl
 
-pub raster-words-numbers : (g : Registers) (video : List ℕ) (y : ℕ) → numbers (stretchRows g video y) ≡ 3 ∷ 4 ∷ 5 ∷ 6 ∷ 7 ∷ 8 ∷ 9 ∷ 11 ∷ 12 ∷ []
+pub raster-words-numbers : (g : Registers) (video : List ℕ) (y : ℕ) → numbers (stretchTable g video y) ≡ 3 ∷ 4 ∷ 5 ∷ 6 ∷ 7 ∷ 8 ∷ 9 ∷ 11 ∷ 12 ∷ []
 raster-words-numbers g video y = refl
 
 pub check-sound-numbers : (g : Registers) → numbers (soundTable g) ≡ 3 ∷ 10 ∷ []
@@ -98,7 +99,7 @@ check-sound-refuses κs a x s p = by-table tt _ (p ∙ sound-told (call.checkSou
 
 -- Picture calls.
 pub frame-refuses : Every call.frame λ run.
-    ByTable (run .answer) (frameRows (run .registers) (run .video) (run .cursor) (length (run .before))) tt
+    ByTable (run .answer) (frameTable (run .registers) (run .video) (run .cursor) (length (run .before))) tt
     × Kept (run .answer) (run .before) (run .after)
 unfolding frameLeaves
 frame-refuses κs a x s p =
@@ -109,7 +110,7 @@ frame-refuses κs a x s p =
     )
 
 pub raster-refuses : Every call.raster λ run.
-    ByTable (run .answer) (rasterRows (run .registers) (run .video) (run .cursor) (run .raster) (length (run .before))) tt
+    ByTable (run .answer) (rasterTable (run .registers) (run .video) (run .cursor) (run .raster) (length (run .before))) tt
     × Kept (run .answer) (run .before) (run .after)
 unfolding rasterLeaves
 raster-refuses κs a x s p =
@@ -121,37 +122,28 @@ raster-refuses κs a x s p =
 
 -- The count that is given is that of the marks' definition.
 pub marks-refuses : Every call.marks λ run.
-    ByTable (run .answer) (marksRows (run .registers) (run .video) (run .cursor))
+    ByTable (run .answer) (pictureTable (run .registers) (run .video) (run .cursor))
     (marksOf (run .registers) (settingOf (run .registers)) (run .video) (run .cursor) (run .threshold))
 marks-refuses κs a x s p =
     let run : MarksRun = call.marks .seen κs a x s in
     by-table _ _ (p ∙ marks-told (run .registers) (run .video) (run .cursor) (run .threshold))
 
 -- Where a raster's words stand, and of the words themselves the refusal or none.
-pub stretch-table : (g : Registers) (video : List ℕ) (y : ℕ) → ByTable (stretchTold g video y) (stretchRows g video y) (stretchOf (settingOf g) y)
+pub stretch-table : (g : Registers) (video : List ℕ) (y : ℕ) → ByTable (stretchTold g video y) (stretchTable g video y) (stretchOf (settingOf g) y)
 stretch-table g video y = by-table _ _ (stretch-told g video y)
 
 pub find-refuses : Every call.find λ run.
-    ByTable (run .answer) (stretchRows (run .registers) (run .video) (run .raster)) (stretchOf (settingOf (run .registers)) (run .raster))
+    ByTable (run .answer) (stretchTable (run .registers) (run .video) (run .raster)) (stretchOf (settingOf (run .registers)) (run .raster))
 find-refuses κs a x s p =
     let run : StretchRun Stretch = call.find .seen κs a x s in
     by-table _ _ (p ∙ stretch-told (run .registers) (run .video) (run .raster))
 
-answered : (rows : List Row) (b : Stretch) → answerTold (judged rows b) ≡ judged rows tt
-answered [] b = refl
-answered (r ∷ rs) b = go (r .when) (answered rs b)
-  where
-    go : (t : Bool) → answerTold (judged rs b) ≡ judged rs tt
-        → answerTold (pick t (refused (r .tells)) (judged rs b)) ≡ pick t (refused (r .tells)) (judged rs tt)
-    go true e = refl
-    go false e = e
-
-pub raster-words-refuses : Every call.rasterWordsAnswer λ run. ByTable (run .answer) (stretchRows (run .registers) (run .video) (run .raster)) tt
+pub raster-words-refuses : Every call.rasterWordsAnswer λ run. ByTable (run .answer) (stretchTable (run .registers) (run .video) (run .raster)) tt
 raster-words-refuses κs a x s p =
     let run : StretchRun (Unit {0}) = call.rasterWordsAnswer .seen κs a x s in
     by-table tt _
     (p ∙ ap answerTold (stretch-told (run .registers) (run .video) (run .raster))
-    ∙ answered (stretchRows (run .registers) (run .video) (run .raster)) (stretchOf (settingOf (run .registers)) (run .raster)))
+    ∙ sym (judged-then (stretchOf (settingOf (run .registers)) (run .raster)) tt (stretchTable (run .registers) (run .video) (run .raster))))
 
 -- Sound.
 pub play-refuses : Every call.play λ run.

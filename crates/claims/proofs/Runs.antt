@@ -4,29 +4,22 @@ use mathlib.Core.Path.{_≡_, refl, sym, _∙_, ap, subst}
 use mathlib.Core.List.{List, []}
 use native.Mathlib.Omega.{arith}
 use lib.ListN.{length}
-use borrow.Author.Tests.{eq-eqb, le-ltb}
 use denote.Ref.{RefT}
 use Rattle.buffers.specs.Painted.{painted}
 use Rattle.buffers.proofs.Paints.{Paints, paints-of}
 use Rattle.refusals.specs.Table.{Told, given, unlessRefused}
-use Rattle.registers.specs.Setting.{settingOf, videoWords, cursorWords}
+use Rattle.registers.specs.Setting.{settingOf}
 use Rattle.registers.specs.declared.record.Registers.{Registers}
 use Rattle.refusals.specs.declared.Answer.the-variants.{Done}
 use Rattle.frame.specs.Frame.{cells, frameCell, frameTold, frameLeaves}
+use Rattle.frame.proofs.Calls.{frame-given}
 use Rattle.claims.specs.Calls.{Call, Every, Ran}
 use Rattle.claims.specs.Views as call
 use Rattle.claims.specs.Framed.{On, Right, Framed}
 
 module _ {g : Registers} {video cursor before : List ℕ} where
   right-told : Right g video cursor before → frameTold g video cursor (length before) ≡ given tt
-  unfolding frameTold
-  right-told r =
-      rw (
-        r .accepted,
-        eq-eqb (length video) (videoWords (settingOf g)) (r .video-words),
-        eq-eqb (length cursor) (cursorWords (settingOf g)) (r .cursor-words),
-        le-ltb (length before) (cells (settingOf g)) (r .room),
-      )
+  right-told r = frame-given g video cursor before (settingOf g) (r .picture) (r .room)
 
   painted-framed : {after : List ℕ} → cells (settingOf g) ≤ length before
       → after ≡ painted before 0 (cells (settingOf g)) (frameCell g (settingOf g) video cursor) → Framed g video cursor before after

@@ -14,8 +14,10 @@ use Rattle.registers.specs.Setting.{settingOf, videoWords, cursorWords}
 use Rattle.registers.specs.Check.{checkTold}
 use Rattle.registers.specs.Small.{smallWords, smallRegisters}
 use Rattle.registers.specs.declared.setting.Setting.{Setting}
-use Rattle.frame.specs.Pixel.{pixel}
-use Rattle.frame.specs.Cell.{plainCode, covered, code, cell}
+use Rattle.cells.specs.Pixel.{pixel}
+use Rattle.cells.specs.Cell.{plainCode, covered, code, cell}
+use Rattle.cells.specs.Picture.{pictureTold}
+use Rattle.cells.proofs.Pictures.{picture-given}
 use Rattle.frame.specs.Frame.{frameCell, rasterCell}
 use Rattle.marks.specs.Count.{total}
 use Rattle.marks.specs.Marks.{marksOf}
@@ -23,7 +25,7 @@ use Rattle.plates.specs.Plate.{plateOf}
 use Rattle.plates.specs.Read.{readTold}
 use Rattle.runs.specs.Decimal.{digits, decimal}
 use Rattle.runs.specs.Runs.{codeOf, run}
-use Rattle.runs.specs.Sheet.{registerWords, videoList, cursorList, registersOf, takenTold, pictureTold, sheetTold}
+use Rattle.runs.specs.Sheet.{registerWords, videoList, cursorList, registersOf, takenTold, sheetTold}
 use Rattle.runs.specs.Text.{labelled, headLine, rasterLine, pictureHead, pictureLine, lineAt, firstLines, textOf}
 use Rattle.runs.proofs.Spread.{Codes, _of_, spread, Apart, runsText, line-spread}
 use Rattle.claims.specs.Marked.{smallVideo}
@@ -54,8 +56,8 @@ unfolding reserved storedOf applied lowest settingOf checkTold
 small-setting = refl
 
 small-picture : pictureTold smallRegisters smallVideo [] ≡ given small
-unfolding reserved storedOf applied settingOf videoWords cursorWords pictureTold
-small-picture = rw small-setting
+unfolding reserved storedOf applied settingOf videoWords cursorWords
+small-picture = picture-given smallRegisters smallVideo [] small small-setting refl refl
 
 small-taken : takenTold smallPlate ≡ given tt
 unfolding reserved plateOf bytesOf wordsOf registerWords leading loadTold readTold takenTold

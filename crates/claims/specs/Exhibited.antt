@@ -4,7 +4,7 @@ use mathlib.Core.List.{List}
 use lib.ListN.{set, replicate}
 use Rattle.registers.specs.Setting.{videoWords}
 use Rattle.registers.specs.declared.setting.Setting.{Setting}
-use Rattle.frame.specs.Pixel.{position}
+use Rattle.cells.specs.Pixel.{position}
 
 -- As many words as the setting asks for, all of them 0 but for pixel p at position x of raster y.
 unfoldable pub onePixel : Setting → ℕ → ℕ → ℕ → List ℕ

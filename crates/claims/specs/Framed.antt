@@ -4,10 +4,10 @@ use mathlib.Core.Path.{_≡_}
 use mathlib.Core.List.{List}
 use lib.ListN.{length, getD}
 use Rattle.refusals.specs.Table.{given}
-use Rattle.registers.specs.Setting.{settingOf, videoWords, cursorWords}
-use Rattle.registers.specs.Check.{checkTold}
+use Rattle.registers.specs.Setting.{settingOf}
 use Rattle.registers.specs.declared.record.Registers.{Registers}
-use Rattle.frame.specs.Cell.{cell}
+use Rattle.cells.specs.Cell.{cell}
+use Rattle.cells.specs.Picture.{pictureTold}
 use Rattle.frame.specs.Frame.{cells}
 use Rattle.claims.specs.Views.{FrameRun}
 
@@ -17,11 +17,9 @@ pub record On (g : Registers) (video cursor : List ℕ) (run : FrameRun) : Type 
   pub video-is : run .video ≡ video
   pub cursor-is : run .cursor ≡ cursor
 
--- An accepted setting, lists of the sizes that it asks for, and room for N·V cells.
+-- A picture that is not refused: its setting is accepted, and its lists are of the sizes that it asks for; and room for N·V cells.
 pub record Right (g : Registers) (video cursor before : List ℕ) : Type 0 where
-  pub accepted : checkTold g ≡ given (settingOf g)
-  pub video-words : length video ≡ videoWords (settingOf g)
-  pub cursor-words : length cursor ≡ cursorWords (settingOf g)
+  pub picture : pictureTold g video cursor ≡ given (settingOf g)
   pub room : cells (settingOf g) ≤ length before
 
 -- What lent memory holds after a frame call that is not refused.

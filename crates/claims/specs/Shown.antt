@@ -10,8 +10,8 @@ use Rattle.registers.specs.Control.{depthOf, entriesInUse}
 use Rattle.registers.specs.Colours.{paletteOf}
 use Rattle.registers.specs.declared.record.Registers.{Registers}
 use Rattle.registers.specs.declared.setting.Setting.{Setting}
-use Rattle.frame.specs.Pixel.{logical}
-use Rattle.frame.specs.Cell.{within, inDisplay, covered}
+use Rattle.cells.specs.Pixel.{logical}
+use Rattle.cells.specs.Cell.{within, inDisplay, covered}
 use Rattle.frame.specs.Frame.{cells}
 
 -- Depth 1, 2, 4: all 13 bits of an entry are shown. Depth 8: its bits 12, 10-8, 5, 4, 2-0.

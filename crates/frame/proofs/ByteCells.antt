@@ -9,7 +9,7 @@ use lib.ListN.{length, getD, replicate, length-replicate, getD-replicate}
 use lib.Pow.{pow-pos, pow-mono, shr-shr}
 use Rattle.buffers.specs.Painted.{painted}
 use Rattle.buffers.proofs.Paints.{Paints, paint-next, paint-as, paints-of}
-use Rattle.frame.specs.Ink.{from, cellIn, byteInk, bytesInk}
+use Rattle.frame.specs.inner.Ink.{from, cellIn, byteInk, bytesInk}
 use Rattle.frame.proofs.Words.{part-room}
 
 -- 2 ^ d as the machine makes it.

@@ -14,21 +14,23 @@ use Rattle.buffers.proofs.Split.{lt-or-le, true-or-false, is-false}
 use Rattle.buffers.proofs.Paints.{Paints, paint-as, paint-next, paints-of, paints-painted}
 use Rattle.registers.specs.declared.setting.Setting.{Setting}
 use Rattle.registers.proofs.Accepted.{Accepted}
-use Rattle.frame.specs.Cell.{within, inDisplay, inBorder}
-use Rattle.frame.specs.Ink.{blankOf, edgeInk, plainInk, linedInk}
-use Rattle.frame.specs.Made.{Edged, anew}
-use Rattle.frame.proofs.Regions.{Inside, true-within, border-inside, inside-border, display-inside, inside-display, border-shown, sync-ink, blank-ink, border-ink, display-ink}
+use Rattle.cells.specs.Cell.{within, inDisplay, inBorder}
+use Rattle.cells.specs.inner.Region.{InBorder}
+use Rattle.cells.proofs.Regions.{true-within, border-inside, inside-border, display-inside, inside-display, border-shown}
+use Rattle.frame.specs.inner.Ink.{blankOf, edgeInk, plainInk, linedInk}
+use Rattle.frame.specs.inner.Lines.{Edged, anew}
+use Rattle.frame.proofs.PlainCells.{sync-ink, blank-ink, border-ink, display-ink}
 
 module _ (s : Setting) (pens : List ℕ) (x y : ℕ) where
   sync-edge : x < s .hs .0 → edgeInk s pens y x ≡ blankOf s y + 8192
   unfolding edgeInk
   sync-edge h = rw (lt-ltb x (s .hs .0) h)
 
-  border-edge : Accepted s → Inside (s .bs .0) (s .be .0) (s .vbs .0) (s .vbe .0) x y → edgeInk s pens y x ≡ getD pens 0 0
+  border-edge : Accepted s → InBorder s x y → edgeInk s pens y x ≡ getD pens 0 0
   unfolding edgeInk
   border-edge r i = rw (le-ltb x (s .hs .0) (border-shown s r x y i .0), inside-border s x y i)
 
-  blank-edge : s .hs .0 ≤ x → (Inside (s .bs .0) (s .be .0) (s .vbs .0) (s .vbe .0) x y → ⊥) → edgeInk s pens y x ≡ blankOf s y
+  blank-edge : s .hs .0 ≤ x → (InBorder s x y → ⊥) → edgeInk s pens y x ≡ blankOf s y
   unfolding edgeInk
   blank-edge h out = rw (le-ltb x (s .hs .0) h, is-false (inBorder s x y) (λ e. out (border-inside s x y e)))
 
@@ -43,7 +45,7 @@ module _ (s : Setting) (pens : List ℕ) (x y : ℕ) where
                     let i = border-inside s x y e in
                     border-ink s pens table video x y r i (λ d. true≢false (sym (inside-display s x y d) ∙ none)) ∙ sym (border-edge r i)
                 | inr e ↦
-                    let out : Inside (s .bs .0) (s .be .0) (s .vbs .0) (s .vbe .0) x y → ⊥ = λ i. true≢false (sym (inside-border s x y i) ∙ e) in
+                    let out : InBorder s x y → ⊥ = λ i. true≢false (sym (inside-border s x y i) ∙ e) in
                     blank-ink s pens table video x y r h out ∙ sym (blank-edge h out)
               ]
         ]
@@ -100,7 +102,9 @@ module _ (s : Setting) (r : Accepted s) (pens o : List ℕ) (y : ℕ) (room : s 
   filled a b v fits same e = paint-as (edgeInk s pens y) same (paints-of fits e)
 
   synced : (p : List ℕ) → p ≡ painted o 0 (s .hs .0) (λ k. blankOf s y + 8192) → Paints 0 o p 0 (s .hs .0) (edgeInk s pens y)
-  synced p e = filled 0 (s .hs .0) (blankOf s y + 8192) (omega (arith, r .hs-bs, r .bs-ds, r .ds-de, r .de-be, r .be-n)) (λ x a b. sym (sync-edge s pens x y b)) e
+  synced p e =
+      filled 0 (s .hs .0) (blankOf s y + 8192) (omega (arith, r .hs-bs, r .bs-ds, r .ds-de, r .de-be, r .be-n))
+      (λ x a b. sym (sync-edge s pens x y b)) e
 
   pub blank-line : (p m : List ℕ) (empty : ℕ) → within (s .vbs .0) (s .vbe .0) y ≡ false → empty ≡ blankOf s y
       → p ≡ painted o 0 (s .hs .0) (λ k. empty + 8192) → m ≡ painted p (s .hs .0) (s .n .0) (λ k. empty)
@@ -129,7 +133,8 @@ module _ (s : Setting) (r : Accepted s) (pens o : List ℕ) (y : ℕ) (room : s 
       (simp e-empty at h) in
       paints-painted {d = 0} room
       (paint-next {d = 0} (omega arith) (omega (arith, r .be-n))
-      (paint-next {d = 0} (omega arith) (omega (arith, r .bs-ds, r .ds-de, r .de-be)) (paint-next {d = 0} (omega arith) (omega (arith, r .hs-bs)) sync before) border) after)
+      (paint-next {d = 0} (omega arith) (omega (arith, r .bs-ds, r .ds-de, r .de-be))
+      (paint-next {d = 0} (omega arith) (omega (arith, r .hs-bs)) sync before) border) after)
 
   pub edged-line : (m : List ℕ) → m ≡ painted o 0 (s .n .0) (edgeInk s pens y) → Edged s pens y m
   edged-line m e = record { held = λ x h. paints-of {d = 0} room e .on x (omega arith) h }

@@ -8,9 +8,9 @@ use native.Mathlib.Omega.{arith}
 use lib.ListN.{length, getD, set}
 use Rattle.buffers.specs.Painted.{painted}
 use Rattle.buffers.proofs.Paints.{Paints, paint-as, paint-none, paint-more, paint-next, paints-of, paints-painted}
-use Rattle.frame.specs.Ink.{from, movedInk, quadCell, wordInk, wordsInk}
+use Rattle.frame.specs.inner.Ink.{from, movedInk, quadCell, wordInk, wordsInk}
 use Rattle.buffers.specs.Words.{byteOf}
-use Rattle.frame.specs.Made.{Cells, Joined, Quads, Four}
+use Rattle.frame.specs.inner.Quads.{Cells, Joined, Quads, Four}
 use Rattle.frame.proofs.Words.{word-same}
 
 -- The cell that byte j of a word has, one to a byte.
@@ -45,33 +45,49 @@ module _ (quads : List ℕ) (joined : Joined quads) (w : ℕ) where
   abbrev pub cellOf : ℕ → ℕ
   cellOf j = getD quads (w / 2 ^ (8 * j) % 256) 0
 
-  pub cell-small : (j : ℕ) → cellOf j < 65536
+  cell-small : (j : ℕ) → cellOf j < 65536
   cell-small j = joined .small (w / 2 ^ (8 * j) % 256) (mod-lt _ (omega arith))
 
   at-place : (j b : ℕ) → j < 4 → b ≡ w / 2 ^ (8 * j) % 256 → getD quads (256 * j + b) 0 ≡ cellOf j * 2 ^ (16 * j)
   at-place j b h e = rw e (joined .moved j (w / 2 ^ (8 * j) % 256) h (mod-lt _ (omega arith)))
 
-  -- The cells of bytes 1 to 3 at their places.
-  pub place-1 : getD quads (256 + w / 2 ^ 8 % 256) 0 ≡ cellOf 1 * 65536
-  place-1 = at-place 1 (w / 2 ^ 8 % 256) (omega arith) refl
+  -- The cell of each byte at its place, and that it is small.
+  pub record Added : Type 0 where
+    pub lowest : getD quads (w % 256) 0 ≡ cellOf 0
+    pub place-1 : getD quads (256 + w / 2 ^ 8 % 256) 0 ≡ cellOf 1 * 65536
+    pub place-2 : getD quads (512 + w / 2 ^ 16 % 256) 0 ≡ cellOf 2 * 4294967296
+    pub place-3 : getD quads (768 + w / 2 ^ 24 % 256) 0 ≡ cellOf 3 * 281474976710656
+    pub small-0 : cellOf 0 < 65536
+    pub small-1 : cellOf 1 < 65536
+    pub small-2 : cellOf 2 < 65536
+    pub small-3 : cellOf 3 < 65536
 
-  pub place-2 : getD quads (512 + w / 2 ^ 16 % 256) 0 ≡ cellOf 2 * 4294967296
-  place-2 = at-place 2 (w / 2 ^ 16 % 256) (omega arith) refl
+  pub four-added : Added
+  four-added =
+      record {
+        lowest = let e : 2 ^ (8 * 0) ≡ 1 = refl in rw (e, div-one w);
+        place-1 = at-place 1 (w / 2 ^ 8 % 256) (omega arith) refl;
+        place-2 = at-place 2 (w / 2 ^ 16 % 256) (omega arith) refl;
+        place-3 = at-place 3 (w / 2 ^ 24 % 256) (omega arith) refl;
+        small-0 = cell-small 0;
+        small-1 = cell-small 1;
+        small-2 = cell-small 2;
+        small-3 = cell-small 3;
+      }
 
-  pub place-3 : getD quads (768 + w / 2 ^ 24 % 256) 0 ≡ cellOf 3 * 281474976710656
-  place-3 = at-place 3 (w / 2 ^ 24 % 256) (omega arith) refl
-
-  pub lowest : getD quads (w % 256) 0 ≡ cellOf 0
-  lowest = let e : 2 ^ (8 * 0) ≡ 1 = refl in rw (e, div-one w)
+  -- What holds of any four numbers of 16 bits holds of the four cells.
+  four : {P : ℕ → ℕ → ℕ → ℕ → Type 0} → ((a b c d : ℕ) → a < 65536 → b < 65536 → c < 65536 → d < 65536 → P a b c d)
+      → P (cellOf 0) (cellOf 1) (cellOf 2) (cellOf 3)
+  four law = law (cellOf 0) (cellOf 1) (cellOf 2) (cellOf 3) (cell-small 0) (cell-small 1) (cell-small 2) (cell-small 3)
 
   pub quad-cells : (x : ℕ) → x ≡ sum (cellOf 0) (cellOf 1) (cellOf 2) (cellOf 3) → Four quads w x
   quad-cells x e = record { cell = cell }
     where
       cell : (j : ℕ) → j < 4 → quadCell x j ≡ wordInk quads w 1 j
-      cell zero h = rw e (cell-0 (cellOf 0) (cellOf 1) (cellOf 2) (cellOf 3) (cell-small 0) (cell-small 1) (cell-small 2) (cell-small 3) ∙ sym (word-cell quads w 0))
-      cell (suc zero) h = rw e (cell-1 (cellOf 0) (cellOf 1) (cellOf 2) (cellOf 3) (cell-small 0) (cell-small 1) (cell-small 2) (cell-small 3) ∙ sym (word-cell quads w 1))
-      cell (suc (suc zero)) h = rw e (cell-2 (cellOf 0) (cellOf 1) (cellOf 2) (cellOf 3) (cell-small 0) (cell-small 1) (cell-small 2) (cell-small 3) ∙ sym (word-cell quads w 2))
-      cell (suc (suc (suc zero))) h = rw e (cell-3 (cellOf 0) (cellOf 1) (cellOf 2) (cellOf 3) (cell-small 0) (cell-small 1) (cell-small 2) (cell-small 3) ∙ sym (word-cell quads w 3))
+      cell zero h = rw e (four cell-0 ∙ sym (word-cell quads w 0))
+      cell (suc zero) h = rw e (four cell-1 ∙ sym (word-cell quads w 1))
+      cell (suc (suc zero)) h = rw e (four cell-2 ∙ sym (word-cell quads w 2))
+      cell (suc (suc (suc zero))) h = rw e (four cell-3 ∙ sym (word-cell quads w 3))
       cell (suc (suc (suc (suc j)))) h = absurd (omega arith)
 
 -- The table of quads, as the machine makes it: 256 places moved up by no bits, then by 16, 32 and 48.
@@ -112,7 +128,8 @@ module _ (table : List ℕ) (cells : Cells table) where
 
     moved : (j b : ℕ) → j < 4 → b < 256 → getD s (256 * j + b) 0 ≡ getD s b 0 * 2 ^ (16 * j)
     moved zero b h l = let k : 256 * 0 + b ≡ b = omega arith in rw (k, mul-one (getD s b 0))
-    moved (suc zero) b h l = fourth .low (256 + b) (omega arith) ∙ third .low (256 + b) (omega arith) ∙ second .on (256 + b) (omega arith) (omega arith) ∙ back 256 16 b l
+    moved (suc zero) b h l =
+        fourth .low (256 + b) (omega arith) ∙ third .low (256 + b) (omega arith) ∙ second .on (256 + b) (omega arith) (omega arith) ∙ back 256 16 b l
     moved (suc (suc zero)) b h l = fourth .low (512 + b) (omega arith) ∙ third .on (512 + b) (omega arith) (omega arith) ∙ back 512 32 b l
     moved (suc (suc (suc zero))) b h l = fourth .on (768 + b) (omega arith) (omega arith) ∙ back 768 48 b l
     moved (suc (suc (suc (suc j)))) b h l = absurd (omega arith)
@@ -154,7 +171,8 @@ module _ (x at : ℕ) (o : List ℕ) (room : at + 4 ≤ length o) where
 -- They are the cells of word q of a list, at its place.
 module _ (quads ws : List ℕ) (at q : ℕ) where
   pub quad-placed : (p r : List ℕ) (x : ℕ) → Four quads (getD ws q 0) x → at + 4 * q + 4 ≤ length p
-      → r ≡ painted p (at + 4 * q) (at + 4 * q + 4) (from (at + 4 * q) (quadCell x)) → r ≡ painted p (at + 4 * q) (at + 4 * q + 4) (from at (wordsInk quads ws 1))
+      → r ≡ painted p (at + 4 * q) (at + 4 * q + 4) (from (at + 4 * q) (quadCell x))
+      → r ≡ painted p (at + 4 * q) (at + 4 * q + 4) (from at (wordsInk quads ws 1))
   unfolding from
   quad-placed p r x four room e =
       paints-painted {d = 0} {f = from at (wordsInk quads ws 1)} room
@@ -163,11 +181,14 @@ module _ (quads ws : List ℕ) (at q : ℕ) where
       (paints-of {d = 0} {f = from (at + 4 * q) (quadCell x)} room e))
 
   -- One word more is painted.
-  pub quad-turn : (o p r : List ℕ) (a n : ℕ) → n ≡ q + 1 → a ≤ at + 4 * q → at + 4 * q + 4 ≤ length o → Paints 0 o p a (at + 4 * q) (from at (wordsInk quads ws 1))
+  pub quad-turn : (o p r : List ℕ) (a n : ℕ) → n ≡ q + 1 → a ≤ at + 4 * q → at + 4 * q + 4 ≤ length o
+      → Paints 0 o p a (at + 4 * q) (from at (wordsInk quads ws 1))
       → r ≡ painted p (at + 4 * q) (at + 4 * q + 4) (from at (wordsInk quads ws 1)) → Paints 0 o r a (at + 4 * n) (from at (wordsInk quads ws 1))
   quad-turn o p r a n next order room so-far e =
       let k : at + 4 * q + 4 ≡ at + 4 * n = omega arith in
-      rw k at (paint-next {d = 0} {f = from at (wordsInk quads ws 1)} order (omega arith) so-far (paints-of {d = 0} {f = from at (wordsInk quads ws 1)} (omega (arith, so-far .len)) e))
+      rw k at
+      (paint-next {d = 0} {f = from at (wordsInk quads ws 1)} order (omega arith) so-far
+      (paints-of {d = 0} {f = from at (wordsInk quads ws 1)} (omega (arith, so-far .len)) e))
 
 -- A word's cells from the table of quads are those from the table of bytes.
 pub quads-shown : (table quads p r ws : List ℕ) (at : ℕ) → Quads table quads → at + 4 * length ws ≤ length p

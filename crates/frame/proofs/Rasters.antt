@@ -9,15 +9,16 @@ use Rattle.buffers.specs.Pick.{pick}
 use Rattle.buffers.specs.Painted.{painted}
 use Rattle.buffers.proofs.Paints.{Paints, paint-as, paint-next, paints-of, paints-painted}
 use Rattle.registers.specs.declared.setting.Setting.{Setting}
-use Rattle.frame.specs.Pixel.{cursorPair}
-use Rattle.frame.specs.Cell.{covered}
+use Rattle.cells.specs.Pixel.{cursorPair}
+use Rattle.cells.specs.Cell.{covered}
 use Rattle.registers.proofs.Accepted.{Accepted}
-use Rattle.frame.specs.Lent.{Lent}
-use Rattle.frame.specs.Made.{Edged}
-use Rattle.frame.specs.Ink.{from, plainInk, linedInk, ink, coverInk, rowsInk}
+use Rattle.frame.specs.inner.Lent.{Lent}
+use Rattle.frame.specs.inner.Lines.{Edged}
+use Rattle.frame.specs.inner.Ink.{from, plainInk, linedInk, ink, coverInk, rowsInk}
 use Rattle.frame.proofs.Edges.{lined-plain}
 
-module _ (s : Setting) (r : Accepted s) (pens line table video cursor o p q : List ℕ) (at y : ℕ) (room : at + s .n .0 ≤ length o) (edged : Edged s pens y line) where
+module _ (s : Setting) (r : Accepted s) (pens line table video cursor o p q : List ℕ) (at y : ℕ) (room : at + s .n .0 ≤ length o)
+    (edged : Edged s pens y line) where
   -- Cover over plain cells is the rule.
   pub row-law : p ≡ painted o at (at + s .n .0) (from at (linedInk s line table video y))
       → q ≡ painted p at (at + s .n .0) (coverInk s pens cursor y at p)
@@ -27,7 +28,9 @@ module _ (s : Setting) (r : Accepted s) (pens line table video cursor o p q : Li
       (record {
         len = over .len ∙ under .len;
         low = λ k h. over .low k h ∙ under .low k h;
-        on = λ k a b. over .on k a b ∙ ap (λ (n : ℕ). pick (covered s cursor (k - at) y) (getD pens (cursorPair s cursor y (k - at - s .cx .0)) 0) n) (under .on k a b);
+        on = λ k a b.
+            over .on k a b
+            ∙ ap (λ (n : ℕ). pick (covered s cursor (k - at) y) (getD pens (cursorPair s cursor y (k - at - s .cx .0)) 0) n) (under .on k a b);
         high = λ k h. over .high k h ∙ under .high k h;
       })
     where
@@ -72,7 +75,7 @@ module _ (s : Setting) (pens table video cursor : List ℕ) (first y : ℕ) (aft
       paint-next {d = 0} (omega arith) (omega arith) so-far
       (paint-as (rowsInk s pens table video cursor first) row-same (paints-of (rw (so-far .len) room) e))
 
-pub lent-row : {s : Setting} {video cursor o p : List ℕ} (first end y at : ℕ) → Lent s (s .n .0 * (end - first)) video cursor o → length p ≡ length o
-    → first ≤ y → y < end → at ≡ (y - first) * s .n .0 → Lent s (at + s .n .0) video cursor p
+pub lent-row : {s : Setting} {video cursor o p : List ℕ} (first end y at : ℕ) → Lent s (s .n .0 * (end - first)) video cursor o
+    → length p ≡ length o → first ≤ y → y < end → at ≡ (y - first) * s .n .0 → Lent s (at + s .n .0) video cursor p
 lent-row {s} first end y at r e a h start =
-    record { accepted = r .accepted; room = omega (arith, r .room, row-room s first end y a h); video-words = r .video-words; cursor-words = r .cursor-words }
+    record { picture = r .picture; room = omega (arith, r .room, row-room s first end y a h) }

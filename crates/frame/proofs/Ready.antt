@@ -1,14 +1,14 @@
--- The rule over cells made ready is the cell rule.
+-- The rule over cells made ready is the cell rule: the table holds each pixel's display cell, the pens the border's and the cursor's.
 use Prim.Native.Nat.{ℕ, zero, suc, _+_, _*_, _-_, _/_, _%_, _^_, _<_, _≤_}
-use mathlib.Core.Bool.{Bool, true, false, _&&_, not}
+use mathlib.Core.Bool.{Bool, true, false}
 use mathlib.Core.Path.{_≡_, refl, sym, ap, _∙_}
 use mathlib.Core.List.{List}
 use mathlib.Core.Logic.{inl, inr}
 use native.Mathlib.Nat.{div-one, mod-eq-of-lt, mod-lt, one-mul, sub-zero, zero-add, div-eq-of-lt, add-zero}
 use native.Mathlib.Omega.{arith}
-use borrow.Author.Tests.{not-true, eqb-false}
+use borrow.Author.Tests.{eqb-false}
 use lib.Arith.{digits-div, digits-mod}
-use lib.Dec.{ltb, leb, eqb}
+use lib.Dec.{ltb, eqb}
 use lib.ListN.{length, getD, replicate, length-replicate}
 use lib.Pow.{pow-mono, pow-pos}
 use Rattle.buffers.specs.Pick.{pick}
@@ -16,7 +16,6 @@ use Rattle.buffers.specs.Painted.{painted}
 use Rattle.buffers.specs.Words.{byteOf}
 use Rattle.buffers.proofs.Paints.{paint-as, paints-of, paints-painted}
 use Rattle.buffers.proofs.Split.{true-or-false}
-use Rattle.buffers.proofs.Tests.{and-split}
 use Rattle.registers.specs.Colours.{borderOf, cursorOf}
 use Rattle.registers.proofs.Accepted.{Depth}
 use Rattle.registers.specs.declared.record.Registers.{Registers}
@@ -24,12 +23,14 @@ use Rattle.registers.specs.declared.setting.Setting.{Setting}
 use Rattle.colours.specs.Colour.{shownOf, colourOf, entriesOf}
 use Rattle.colours.proofs.Bounds.{colour-below}
 use Rattle.colours.proofs.Sixteen.{entry-of}
-use Rattle.frame.specs.Pixel.{position, logical, cursorPair}
-use Rattle.frame.specs.Cell.{inDisplay, inBorder, inCursor, plainCode, covered, code, cell}
-use Rattle.frame.specs.Ink.{byteInk, bytesInk, wordsInk, displayInk, plainInk, ink, rowsInk, rowsCell, shade, entryShade, pensOf}
-use Rattle.frame.proofs.PixelPlaces.{per-least, per-most, pixel-byte}
+use Rattle.cells.specs.Pixel.{position, logical, cursorPair}
+use Rattle.cells.specs.Cell.{inDisplay, inBorder, plainCode, covered, code, cell}
+use Rattle.cells.proofs.Regions.{covered-shown, covered-cell}
+use Rattle.frame.specs.inner.Ink.{byteInk, bytesInk, wordsInk, displayInk, plainInk, ink, rowsInk, rowsCell, shade, entryShade, pensOf}
+use Rattle.cells.proofs.PixelPlaces.{per-least, per-most, pixel-byte}
 use Rattle.frame.proofs.Words.{part-room}
-use Rattle.frame.specs.Made.{Bytes, Cells}
+use Rattle.frame.specs.inner.Bytes.{Bytes}
+use Rattle.frame.specs.inner.Quads.{Cells}
 use Rattle.frame.specs.Frame.{cells, frameCell, rasterCell}
 
 -- How many logical pixels there are, as the machine reckons it.
@@ -90,23 +91,26 @@ module _ (g : Registers) (s : Setting) (table video cursor : List ℕ) (x y : �
   unfolding cursorPair
   pair-below = omega arith
 
-  pair-shown : covered s cursor x y ≡ true → eqb (cursorPair s cursor y (x - s .cx .0)) 0 ≡ false
-  unfolding covered
-  pair-shown e = not-true _ (and-split (leb 4 (plainCode s x y) && inCursor s x y) (not (eqb (cursorPair s cursor y (x - s .cx .0)) 0)) e .1)
+  -- Where it is covered, the cursor's pen; else by the tests that make the code.
+  ink-covered : covered s cursor x y ≡ true → ink s (pensOf g) table video cursor y x ≡ 6 * 8192 + cursorOf g (cursorPair s cursor y (x - s .cx .0))
+  unfolding ink
+  ink-covered e =
+      let pair = cursorPair s cursor y (x - s .cx .0) in
+      rw e (pen-at g pair pair-below (eqb-false pair 0 (covered-shown s x y cursor e)))
+
+  ink-plain : covered s cursor x y ≡ false → ink s (pensOf g) table video cursor y x ≡ cell g s video cursor x y
+  unfolding ink plainInk plainCode code cell pensOf
+  ink-plain e =
+      rw e
+      (by-tests (ltb x (s .hs .0)) (ltb y (s .vs .0)) (inDisplay s x y) (inBorder s x y) _ _
+      (cursorOf g (cursorPair s cursor y (x - s .cx .0))) (colourOf g (s .depth) (logical s video x y)) (borderOf g) pixel-cell refl)
 
   pub ink-cell : ink s (pensOf g) table video cursor y x ≡ cell g s video cursor x y
-  unfolding ink plainInk plainCode code cell pensOf
   ink-cell =
       elim (true-or-false (covered s cursor x y)) [
-        | inl e ↦ rw e (over e)
-        | inr e ↦
-            rw e
-            (by-tests (ltb x (s .hs .0)) (ltb y (s .vs .0)) (inDisplay s x y) (inBorder s x y) _ _
-            (cursorOf g (cursorPair s cursor y (x - s .cx .0))) (colourOf g (s .depth) (logical s video x y)) (borderOf g) pixel-cell refl)
+        | inl e ↦ ink-covered e ∙ sym (covered-cell g s video cursor x y e)
+        | inr e ↦ ink-plain e
       ]
-    where
-      over : covered s cursor x y ≡ true → getD (pensOf g) (cursorPair s cursor y (x - s .cx .0)) 0 ≡ 6 * 8192 + cursorOf g (cursorPair s cursor y (x - s .cx .0))
-      over e = pen-at g (cursorPair s cursor y (x - s .cx .0)) pair-below (eqb-false _ _ (pair-shown e))
 
 -- One raster alone has as many places as it has positions.
 pub one-raster : (n y : ℕ) → n * (y + 1 - y) ≡ n
@@ -159,7 +163,8 @@ module _ (g : Registers) (s : Setting) (pens table video cursor o p : List ℕ) 
   same : (x y : ℕ) → ink s pens table video cursor y x ≡ cell g s video cursor x y
   same x y = rw pens-is (ink-cell g s table video cursor x y depth right)
 
-  pub rows-law : (first m : ℕ) → m ≤ length o → p ≡ painted o 0 m (rowsInk s pens table video cursor first) → p ≡ painted o 0 m (rowsCell g s video cursor first)
+  pub rows-law : (first m : ℕ) → m ≤ length o → p ≡ painted o 0 m (rowsInk s pens table video cursor first)
+      → p ≡ painted o 0 m (rowsCell g s video cursor first)
   unfolding rowsInk rowsCell
   rows-law first m room e =
       paints-painted {d = 0} {f = rowsCell g s video cursor first} room

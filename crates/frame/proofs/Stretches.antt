@@ -13,10 +13,11 @@ use Rattle.buffers.proofs.Split.{lt-or-le, is-false}
 use Rattle.buffers.proofs.Paints.{Paints, paint-as, paint-more, paint-next, paints-of, paints-painted, length-painted}
 use Rattle.registers.specs.declared.setting.Setting.{Setting}
 use Rattle.registers.proofs.Accepted.{Accepted}
-use Rattle.frame.specs.Cell.{within, inDisplay}
-use Rattle.frame.specs.Lent.{RasterLent}
-use Rattle.frame.specs.Ink.{from, cellIn, displayInk, linedInk, blankOf}
-use Rattle.frame.proofs.Regions.{Inside, within-true, true-within, display-inside, inside-display}
+use Rattle.cells.specs.Cell.{within, inDisplay}
+use Rattle.cells.specs.inner.Region.{InDisplay}
+use Rattle.cells.proofs.Regions.{within-true, true-within, display-inside, inside-display}
+use Rattle.frame.specs.inner.Lent.{RasterLent}
+use Rattle.frame.specs.inner.Ink.{from, cellIn, displayInk, linedInk, blankOf}
 
 -- One position more of a line is copied.
 pub copy-more : {l m : List ℕ} (at k a : ℕ) (line : List ℕ) → a ≤ k → at + k < length l → Paints 0 l m (at + a) (at + k) (from at (cellIn line))
@@ -29,7 +30,7 @@ copy-more {l} {m} at k a line h fits p =
 
 module _ (s : Setting) (r : Accepted s) (line table video : List ℕ) (at y : ℕ) where
   -- Positions a up to b, which the display does not reach, copied from the line.
-  copied : {l m : List ℕ} (a b : ℕ) → at + b ≤ length l → ((x : ℕ) → a ≤ x → x < b → Inside (s .ds .0) (s .de .0) (s .vds .0) (s .vde .0) x y → ⊥)
+  copied : {l m : List ℕ} (a b : ℕ) → at + b ≤ length l → ((x : ℕ) → a ≤ x → x < b → InDisplay s x y → ⊥)
       → m ≡ painted l (at + a) (at + b) (from at (cellIn line)) → Paints 0 l m (at + a) (at + b) (from at (linedInk s line table video y))
   unfolding from cellIn linedInk
   copied a b room out e =
@@ -60,11 +61,13 @@ module _ (s : Setting) (r : Accepted s) (line table video : List ℕ) (at y : �
       let right = copied (s .de .0) (s .n .0) (rw (shown .len, left .len) room) (λ x a b i. omega (arith, i .right)) g in
       rw (add-zero at) at
       (paints-painted {d = 0} room
-      (paint-next {d = 0} (omega (arith, r .ds-de)) (omega (arith, r .de-be, r .be-n)) (paint-next {d = 0} (omega arith) (omega (arith, r .ds-de)) left shown) right))
+      (paint-next {d = 0} (omega (arith, r .ds-de)) (omega (arith, r .de-be, r .be-n))
+      (paint-next {d = 0} (omega arith) (omega (arith, r .ds-de)) left shown) right))
 
 pub blank-most : (s : Setting) (y : ℕ) → blankOf s y ≤ 16384
 blank-most s y = elim (lt-or-le y (s .vs .0)) [ inl h ↦ rw (lt-ltb y (s .vs .0) h) (omega arith) | inr h ↦ rw (le-ltb y (s .vs .0) h) (omega arith) ]
 
 -- Painting leaves room and words as they were.
-pub raster-kept : {s : Setting} {at : ℕ} {video o p : List ℕ} (a b : ℕ) (f : ℕ → ℕ) → RasterLent s at video o → p ≡ painted o a b f → RasterLent s at video p
-raster-kept {o = o} a b f r e = record { accepted = r .accepted; room = rw (ap length e ∙ length-painted o a b f) (r .room); words = r .words }
+pub raster-kept : {s : Setting} {at needed : ℕ} {words o p : List ℕ} (a b : ℕ) (f : ℕ → ℕ) → RasterLent s at needed words o → p ≡ painted o a b f
+    → RasterLent s at needed words p
+raster-kept {o = o} a b f r e = record { accepted = r .accepted; room = rw (ap length e ∙ length-painted o a b f) (r .room); enough = r .enough }

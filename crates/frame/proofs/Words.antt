@@ -1,20 +1,18 @@
 -- Cells of words, a byte at a time: which cells of the table of bytes the pixels of a word and of a list have.
 use Prim.Native.Nat.{ℕ, _+_, _*_, _-_, _/_, _%_, _^_, _<_, _≤_}
-use mathlib.Core.Path.{_≡_, refl, ap}
+use mathlib.Core.Path.{_≡_, refl}
 use mathlib.Core.List.{List}
 use mathlib.Core.Logic.{inl, inr}
-use native.Mathlib.Nat.{mod-lt, mul-le-mul-right, mul-zero, div-lt-iff-lt-mul}
+use native.Mathlib.Nat.{mod-lt, mul-le-mul-right, div-lt-iff-lt-mul}
 use native.Mathlib.Omega.{arith}
 use lib.ListN.{length, getD, replicate, length-replicate}
 use lib.Pow.{shr-shr}
 use Rattle.buffers.specs.Painted.{painted}
 use Rattle.buffers.proofs.Paints.{Paints, paint-next, paint-as, paints-of}
-use Rattle.buffers.proofs.Split.{lt-or-le}
 use Rattle.registers.proofs.Accepted.{Depth}
-use Rattle.frame.specs.Pixel.{pixel}
-use Rattle.frame.specs.Lent.{Parts}
-use Rattle.frame.specs.Ink.{from, cellIn, wordInk, wordsInk}
-use Rattle.frame.proofs.PixelPlaces.{past-bytes, past-pixels, pixel-in}
+use Rattle.frame.specs.inner.Lent.{Parts}
+use Rattle.frame.specs.inner.Ink.{from, cellIn, wordInk, wordsInk}
+use Rattle.cells.proofs.PixelPlaces.{past-bytes, past-pixels}
 
 -- Part j of so many parts has room.
 pub part-room : (j parts count : ℕ) → j < parts → j * count + count ≤ parts * count
@@ -57,7 +55,12 @@ module _ (table cells : List ℕ) (w per bytes at j k : ℕ) (start : k ≡ at +
   part-same i p q =
       let e : i - at ≡ j * bytes * per + (i - k) = omega arith in
       let bits : 8 * (j * bytes + (i - k) / per) ≡ 8 * (j * bytes) + 8 * ((i - k) / per) = omega arith in
-      rw (past-bytes (i - at) per (j * bytes) (i - k) e some, past-pixels (i - at) per (j * bytes) (i - k) e, bits, ← shr-shr w (8 * (j * bytes)) (8 * ((i - k) / per)))
+      rw (
+        past-bytes (i - at) per (j * bytes) (i - k) e some,
+        past-pixels (i - at) per (j * bytes) (i - k) e,
+        bits,
+        ← shr-shr w (8 * (j * bytes)) (8 * ((i - k) / per)),
+      )
       (read-at (i - k) (omega arith))
 
   -- One part more is painted.
@@ -95,18 +98,3 @@ depth-few (inl e) a = omega arith
 depth-few (inr (inl e)) a = omega arith
 depth-few (inr (inr (inl e))) a = omega arith
 depth-few (inr (inr (inr e))) a = absurd (a e)
-
-pub fill-positive : (n d : ℕ) → n * d ≡ 32 → 0 < d
-fill-positive n d e =
-    elim (lt-or-le 0 d) [
-      | inl h ↦ h
-      | inr h ↦
-          let z : d ≡ 0 = omega arith in
-          let y : n * d ≡ 0 = rw z (mul-zero n) in
-          omega arith
-    ]
-
--- Pixel x of word q, where n pixels of d bits fill a word.
-pub pixel-field : (ws : List ℕ) (d n q x : ℕ) → n * d ≡ 32 → x < n → pixel ws d (q * n + x) ≡ getD ws q 0 / 2 ^ (x * d) % 2 ^ d
-pixel-field ws d n q x e h =
-    pixel-in ws d (q * n + x) q (x * d) (omega (arith, ap (λ (k : ℕ). q * k) e)) (omega (arith, mul-le-mul-right d h, fill-positive n d e))

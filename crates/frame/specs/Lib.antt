@@ -1,6 +1,2 @@
-pub mod Pixel
-pub mod Cell
 pub mod Frame
-pub mod Ink
-pub mod Lent
-pub mod Made
+pub mod inner

@@ -5,7 +5,7 @@ ghost use Prim.Native.Nat.{_+_, _*_, _-_, _/_, _≤_, _<_};
 ghost use lib.ListN.{length, getD, replicate};
 ghost use Rattle.buffers.specs.Painted.{painted};
 ghost use Rattle.registers.proofs.Accepted.{Depth};
-ghost use Rattle.frame.specs.Ink.{bytesInk};
+ghost use Rattle.frame.specs.inner.Ink.{bytesInk};
 
 // A cell, and behind it those from place `at` of the table on, `count` in all.
 fn behind(first: u16, table: &[u16], at: usize, count: usize) -> [u16; 8]

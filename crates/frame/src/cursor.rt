@@ -8,9 +8,10 @@ ghost use mathlib.Core.Path.{_≡_};
 ghost use Prim.Native.Nat.{_+_, _/_, _*_, _≤_, _<_};
 ghost use lib.ListN.{length};
 ghost use Rattle.buffers.specs.Painted.{painted};
-ghost use Rattle.frame.specs.Cell.{within};
-ghost use Rattle.frame.specs.Lent.{Pointed};
-ghost use Rattle.frame.specs.Ink.{pairIn, pairInk, coverInk};
+ghost use Rattle.registers.specs.Setting.{cursorWords};
+ghost use Rattle.cells.specs.Cell.{within};
+ghost use Rattle.frame.specs.inner.Lent.{RasterLent};
+ghost use Rattle.frame.specs.inner.Ink.{pairIn, pairInk, coverInk};
 
 fn pair(cursor: &[u32], first: usize, i: usize) -> usize
     requires { ⌜ first + i / 16 < length (now cursor) ⌝ }
@@ -51,7 +52,7 @@ fn pointed(s: Setting, y: Rasters) -> bool
 }
 
 pub fn cover(out: &mut [u16], at: usize, s: Setting, y: Rasters, pens: &[u16; 4], cursor: &[u32])
-    requires { ⌜ Pointed s at (now cursor) (now out) ⌝ }
+    requires { ⌜ RasterLent s at (cursorWords s) (now cursor) (now out) ⌝ }
     ensures { λ _. ⌜ now (out .exit) ≡ painted (now (out .entry)) at (at + s .n .0)
         (coverInk s (now (pens .entry)) (now (cursor .entry)) (y .0) at (now (out .entry))) ⌝ }
 {

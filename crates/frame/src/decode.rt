@@ -6,9 +6,9 @@ ghost use Prim.Native.Nat.{_+_, _*_, _/_, _≤_, _<_};
 ghost use lib.ListN.{length, replicate};
 ghost use Rattle.buffers.specs.Painted.{painted};
 ghost use Rattle.registers.proofs.Accepted.{Depth};
-ghost use Rattle.frame.specs.Lent.{Parts};
-ghost use Rattle.frame.specs.Made.{Tables};
-ghost use Rattle.frame.specs.Ink.{from, wordInk, wordsInk};
+ghost use Rattle.frame.specs.inner.Lent.{Parts};
+ghost use Rattle.frame.specs.inner.Quads.{Tables};
+ghost use Rattle.frame.specs.inner.Ink.{from, wordInk, wordsInk};
 
 // Pixel i of a word, `per` pixels to a byte.
 fn cell(table: &[u16; 2048], w: u32, per: usize, i: usize) -> u16

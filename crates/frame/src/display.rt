@@ -6,12 +6,12 @@ use registers::units::Rasters;
 ghost use mathlib.Core.Path.{_≡_};
 ghost use Prim.Native.Nat.{_+_, _≤_, _<_};
 ghost use Rattle.buffers.specs.Painted.{painted};
-ghost use Rattle.registers.specs.Setting.{rasterWords};
-ghost use Rattle.frame.specs.Pixel.{firstWord};
+ghost use Rattle.registers.specs.Setting.{rasterWords, videoWords};
+ghost use Rattle.cells.specs.Pixel.{firstWord};
 ghost use Rattle.registers.proofs.Accepted.{Accepted};
-ghost use Rattle.frame.specs.Lent.{RasterLent};
-ghost use Rattle.frame.specs.Made.{Tables};
-ghost use Rattle.frame.specs.Ink.{from, displayInk};
+ghost use Rattle.frame.specs.inner.Lent.{RasterLent};
+ghost use Rattle.frame.specs.inner.Quads.{Tables};
+ghost use Rattle.frame.specs.inner.Ink.{from, displayInk};
 
 // How many words a displayed raster has.
 fn raster_words(s: Setting) -> usize
@@ -38,7 +38,8 @@ pub fn display(
     quads: &[u64; 1024],
     video: &[u32],
 )
-    requires { ⌜ RasterLent s at (now video) (now out) × (s .vds .0 ≤ y .0) × (y .0 < s .vde .0) × Tables (s .depth) (now table) (now quads) ⌝ }
+    requires { ⌜ RasterLent s at (videoWords s) (now video) (now out) × (s .vds .0 ≤ y .0) × (y .0 < s .vde .0)
+        × Tables (s .depth) (now table) (now quads) ⌝ }
     ensures { λ _. ⌜ now (out .exit) ≡ painted (now (out .entry)) (at + s .ds .0) (at + s .de .0)
         (from at (displayInk s (now (table .entry)) (now (video .entry)) (y .0))) ⌝ }
 {

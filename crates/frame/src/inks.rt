@@ -1,20 +1,15 @@
 // Cells made ready, once for each call: a display cell for each logical pixel, and the cells of border and cursor.
 use crate::bytes::bytes;
-use crate::quads::quads;
-use crate::rows::rows;
 use colours::entries;
 use colours::shown;
 use registers::record::Registers;
-use registers::setting::Setting;
-use registers::units::Rasters;
 ghost use mathlib.Core.Path.{_≡_};
-ghost use Prim.Native.Nat.{_*_, _-_, _^_, _≤_};
+ghost use Prim.Native.Nat.{_^_, _≤_};
 ghost use lib.ListN.{length};
 ghost use Rattle.buffers.specs.Painted.{painted};
 ghost use Rattle.registers.proofs.Accepted.{Depth};
-ghost use Rattle.frame.specs.Lent.{Lent};
-ghost use Rattle.frame.specs.Made.{Bytes};
-ghost use Rattle.frame.specs.Ink.{shade, pensOf, rowsCell};
+ghost use Rattle.frame.specs.inner.Bytes.{Bytes};
+ghost use Rattle.frame.specs.inner.Ink.{shade, pensOf};
 
 // The display cell of each logical pixel.
 fn shades(list: &mut [u16], g: Registers, depth: u8)
@@ -31,7 +26,7 @@ fn shades(list: &mut [u16], g: Registers, depth: u8)
 }
 
 // The cells of all pixels of each byte: at depth 8 a byte is a pixel.
-fn ready(table: &mut [u16], g: Registers, depth: u8)
+pub fn ready(table: &mut [u16], g: Registers, depth: u8)
     requires { ⌜ (2048 ≤ length (now table)) × Depth depth ⌝ }
     ensures { λ _. ⌜ Bytes g depth (now (table .exit)) ⌝ }
 {
@@ -44,7 +39,8 @@ fn ready(table: &mut [u16], g: Registers, depth: u8)
     bytes(table, &cells, depth);
 }
 
-fn pens(g: Registers) -> [u16; 4]
+// The cells of the border, and of the cursor's three colours.
+pub fn pens(g: Registers) -> [u16; 4]
     ensures { λ r. ⌜ r ≡ pensOf g ⌝ }
 {
     let border = 4 * 8192 + g.border();
@@ -52,26 +48,4 @@ fn pens(g: Registers) -> [u16; 4]
     let two = 6 * 8192 + g.cursor_colour(2);
     let three = 6 * 8192 + g.cursor_colour(3);
     [border, one, two, three]
-}
-
-// The rasters from the first up to the end, by the cell rule.
-pub fn paint(
-    out: &mut [u16],
-    g: Registers,
-    s: Setting,
-    first: Rasters,
-    end: Rasters,
-    video: &[u32],
-    cursor: &[u32],
-)
-    requires { ⌜ Lent s (s .n .0 * (end .0 - first .0)) (now video) (now cursor) (now out) × (first .0 ≤ end .0) ⌝ }
-    ensures { λ _. ⌜ now (out .exit) ≡ painted (now (out .entry)) 0 (s .n .0 * (end .0 - first .0))
-        (rowsCell g s (now (video .entry)) (now (cursor .entry)) (first .0)) ⌝ }
-{
-    let mut table = [0u16; 2048];
-    ready(&mut table, g, s.depth);
-    let mut four = [0u64; 1024];
-    quads(&mut four, &table, s.depth);
-    let inks = pens(g);
-    rows(out, s, first, end, &inks, &table, &four, video, cursor);
 }

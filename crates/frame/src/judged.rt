@@ -1,19 +1,18 @@
-// The rows of the table after the setting's: 11, 12, 13 as far as they apply, and then the painting.
-use crate::inks::paint;
+// A picture that is given: 12 and 13, as far as they apply, and then the painting.
+use crate::paint::paint;
 use crate::units::wide;
-use crate::words_wrong;
-use registers::record::Registers;
 use refusals::Answer;
 use refusals::Refusal;
+use registers::record::Registers;
 use registers::setting::Setting;
 use registers::units::Rasters;
 ghost use mathlib.Core.Path.{_≡_};
 ghost use lib.ListN.{length};
-ghost use Rattle.buffers.specs.Painted.{painted};
-ghost use Rattle.registers.proofs.Accepted.{Accepted};
-ghost use Rattle.refusals.specs.Table.{judged, unlessRefused};
+ghost use Rattle.refusals.specs.Table.{given};
 ghost use Rattle.refusals.specs.Refusals.{answerSays};
-ghost use Rattle.frame.specs.Frame.{cells, frameCell, frameTable, rasterCell, rasterTable};
+ghost use Rattle.registers.proofs.Accepted.{Accepted};
+ghost use Rattle.cells.specs.Picture.{pictureTold};
+ghost use Rattle.frame.specs.Frame.{cells, frameTold, frameLeaves, rasterTold, rasterLeaves};
 
 // How many cells a frame has.
 fn frame_cells(s: Setting) -> usize
@@ -30,14 +29,10 @@ pub fn judged_frame(
     cursor: &[u32],
     out: &mut [u16],
 ) -> Answer
-    requires { ⌜ Accepted s ⌝ }
-    ensures { λ r. ⌜ (answerSays r ≡ judged (frameTable s (now (video .entry)) (now (cursor .entry)) (length (now (out .entry)))) tt)
-        × (now (out .exit) ≡ unlessRefused (answerSays r) (now (out .entry)) (painted (now (out .entry)) 0 (cells s)
-        (frameCell g s (now (video .entry)) (now (cursor .entry))))) ⌝ }
+    requires { ⌜ pictureTold g (now video) (now cursor) ≡ given s ⌝ }
+    ensures { λ r. ⌜ (answerSays r ≡ frameTold g (now (video .entry)) (now (cursor .entry)) (length (now (out .entry))))
+        × (now (out .exit) ≡ frameLeaves g (now (video .entry)) (now (cursor .entry)) (now (out .entry))) ⌝ }
 {
-    if words_wrong(s, video, cursor) {
-        return Answer::Refused(Refusal::WordCount);
-    }
     if out.len() < frame_cells(s) {
         return Answer::Refused(Refusal::Short);
     }
@@ -53,14 +48,10 @@ pub fn judged_raster(
     y: Rasters,
     out: &mut [u16],
 ) -> Answer
-    requires { ⌜ Accepted s ⌝ }
-    ensures { λ r. ⌜ (answerSays r ≡ judged (rasterTable s (now (video .entry)) (now (cursor .entry)) (y .0) (length (now (out .entry)))) tt)
-        × (now (out .exit) ≡ unlessRefused (answerSays r) (now (out .entry)) (painted (now (out .entry)) 0 (s .n .0)
-        (rasterCell g s (now (video .entry)) (now (cursor .entry)) (y .0)))) ⌝ }
+    requires { ⌜ pictureTold g (now video) (now cursor) ≡ given s ⌝ }
+    ensures { λ r. ⌜ (answerSays r ≡ rasterTold g (now (video .entry)) (now (cursor .entry)) (y .0) (length (now (out .entry))))
+        × (now (out .exit) ≡ rasterLeaves g (now (video .entry)) (now (cursor .entry)) (y .0) (now (out .entry))) ⌝ }
 {
-    if words_wrong(s, video, cursor) {
-        return Answer::Refused(Refusal::WordCount);
-    }
     if y.0 >= s.v.0 {
         return Answer::Refused(Refusal::Raster);
     }

@@ -1,15 +1,15 @@
 // The picture: every cell of the frame, by one rule.
+use cells::judge;
 use judged::judged_frame;
 use judged::judged_raster;
+use refusals::Answer;
 use registers::check::Checked;
 use registers::record::Registers;
-use refusals::Answer;
-use registers::setting::Setting;
 use registers::units::Rasters;
 ghost use mathlib.Core.Path.{_≡_};
 ghost use lib.ListN.{length};
 ghost use Rattle.refusals.specs.Refusals.{answerSays};
-ghost use Rattle.frame.specs.Frame.{wordsWrong, frameTold, frameLeaves, rasterTold, rasterLeaves};
+ghost use Rattle.frame.specs.Frame.{frameTold, frameLeaves, rasterTold, rasterLeaves};
 
 mod bytes;
 mod cursor;
@@ -19,25 +19,19 @@ mod fill;
 mod inks;
 mod judged;
 mod lines;
+mod paint;
 mod plain;
 mod put;
 mod quads;
 mod rows;
 mod units;
 
-// Whether the video or the cursor words are not as many as the setting needs: 11.
-pub fn words_wrong(s: Setting, video: &[u32], cursor: &[u32]) -> bool
-    ensures { λ r. ⌜ r ≡ wordsWrong s (now (video .entry)) (now (cursor .entry)) ⌝ }
-{
-    (video.len() as u64 != s.video_words()) | (cursor.len() as u64 != s.cursor_words())
-}
-
 // All N·V cells of a frame, raster after raster; the lent cells beyond are untouched. Refusals 3 to 9, 11, 13.
 pub fn frame(g: Registers, video: &[u32], cursor: &[u32], out: &mut [u16]) -> Answer
     ensures { λ r. ⌜ (answerSays r ≡ frameTold g (now (video .entry)) (now (cursor .entry)) (length (now (out .entry))))
         × (now (out .exit) ≡ frameLeaves g (now (video .entry)) (now (cursor .entry)) (now (out .entry))) ⌝ }
 {
-    let checked = g.check();
+    let checked = judge(g, video, cursor);
     match checked {
         Checked::Refused(why) => Answer::Refused(why),
         Checked::Accepted(s) => judged_frame(g, s, video, cursor, out),
@@ -49,7 +43,7 @@ pub fn raster(g: Registers, video: &[u32], cursor: &[u32], y: Rasters, out: &mut
     ensures { λ r. ⌜ (answerSays r ≡ rasterTold g (now (video .entry)) (now (cursor .entry)) (y .0) (length (now (out .entry))))
         × (now (out .exit) ≡ rasterLeaves g (now (video .entry)) (now (cursor .entry)) (y .0) (now (out .entry))) ⌝ }
 {
-    let checked = g.check();
+    let checked = judge(g, video, cursor);
     match checked {
         Checked::Refused(why) => Answer::Refused(why),
         Checked::Accepted(s) => judged_raster(g, s, video, cursor, y, out),

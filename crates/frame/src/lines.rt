@@ -10,8 +10,8 @@ ghost use Prim.Native.Nat.{_≤_};
 ghost use lib.ListN.{length};
 ghost use Rattle.buffers.specs.Painted.{painted};
 ghost use Rattle.registers.proofs.Accepted.{Accepted};
-ghost use Rattle.frame.specs.Ink.{blankOf, edgeInk};
-ghost use Rattle.frame.specs.Made.{anew, Edged};
+ghost use Rattle.frame.specs.inner.Ink.{blankOf, edgeInk};
+ghost use Rattle.frame.specs.inner.Lines.{anew, Edged};
 
 fn blank(s: Setting, y: Rasters) -> u16
     ensures { λ r. ⌜ r ≡ blankOf s (y .0) ⌝ }

@@ -9,9 +9,10 @@ ghost use mathlib.Core.Path.{_≡_};
 ghost use Prim.Native.Nat.{_+_, _≤_};
 ghost use lib.ListN.{length};
 ghost use Rattle.buffers.specs.Painted.{painted};
-ghost use Rattle.frame.specs.Lent.{RasterLent};
-ghost use Rattle.frame.specs.Made.{Tables};
-ghost use Rattle.frame.specs.Ink.{from, cellIn, linedInk};
+ghost use Rattle.registers.specs.Setting.{videoWords};
+ghost use Rattle.frame.specs.inner.Lent.{RasterLent};
+ghost use Rattle.frame.specs.inner.Quads.{Tables};
+ghost use Rattle.frame.specs.inner.Ink.{from, cellIn, linedInk};
 
 // Positions from the start up to the end of a line, into the raster at place `at`.
 fn copy(out: &mut [u16], at: usize, line: &[u16; 2048], start: Pixels, end: Pixels)
@@ -36,7 +37,7 @@ pub fn plain(
     quads: &[u64; 1024],
     video: &[u32],
 )
-    requires { ⌜ RasterLent s at (now video) (now out) × Tables (s .depth) (now table) (now quads) ⌝ }
+    requires { ⌜ RasterLent s at (videoWords s) (now video) (now out) × Tables (s .depth) (now table) (now quads) ⌝ }
     ensures { λ _. ⌜ now (out .exit) ≡ painted (now (out .entry)) at (at + s .n .0)
         (from at (linedInk s (now (line .entry)) (now (table .entry)) (now (video .entry)) (y .0))) ⌝ }
 {

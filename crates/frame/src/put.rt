@@ -3,7 +3,7 @@ ghost use mathlib.Core.Path.{_≡_};
 ghost use Prim.Native.Nat.{_+_, _≤_};
 ghost use lib.ListN.{length};
 ghost use Rattle.buffers.specs.Painted.{painted};
-ghost use Rattle.frame.specs.Ink.{from, cellIn};
+ghost use Rattle.frame.specs.inner.Ink.{from, cellIn};
 
 pub fn put(out: &mut [u16], at: usize, count: usize, cells: [u16; 8])
     requires { ⌜ (count ≤ 8) × (at + count ≤ length (now out)) ⌝ }

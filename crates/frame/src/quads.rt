@@ -3,8 +3,8 @@ ghost use mathlib.Core.Path.{_≡_};
 ghost use Prim.Native.Nat.{_+_, _*_, _≤_, _<_};
 ghost use lib.ListN.{length};
 ghost use Rattle.buffers.specs.Painted.{painted};
-ghost use Rattle.frame.specs.Made.{Cells, Quads, Tables, Joined, Four};
-ghost use Rattle.frame.specs.Ink.{from, movedInk, quadCell, wordsInk};
+ghost use Rattle.frame.specs.inner.Quads.{Cells, Quads, Tables, Joined, Four};
+ghost use Rattle.frame.specs.inner.Ink.{from, movedInk, quadCell, wordsInk};
 
 // The cell of each byte moved up by so many bits, from place `at` of the table on.
 fn place(quads: &mut [u64], at: usize, table: &[u16; 2048], bits: u32)

@@ -8,9 +8,10 @@ use registers::units::Rasters;
 ghost use mathlib.Core.Path.{_≡_};
 ghost use Prim.Native.Nat.{_+_, _*_, _-_, _≤_};
 ghost use Rattle.buffers.specs.Painted.{painted};
-ghost use Rattle.frame.specs.Lent.{Lent};
-ghost use Rattle.frame.specs.Made.{Edged, Tables};
-ghost use Rattle.frame.specs.Ink.{from, ink, rowsInk};
+ghost use Rattle.frame.specs.inner.Lent.{Lent};
+ghost use Rattle.frame.specs.inner.Lines.{Edged};
+ghost use Rattle.frame.specs.inner.Quads.{Tables};
+ghost use Rattle.frame.specs.inner.Ink.{from, ink, rowsInk};
 
 fn row(
     out: &mut [u16],

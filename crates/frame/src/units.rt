@@ -4,7 +4,7 @@ use registers::units::Pixels;
 use registers::units::Rasters;
 ghost use mathlib.Core.Path.{_≡_};
 ghost use Prim.Native.Nat.{min};
-ghost use Rattle.frame.specs.Cell.{within};
+ghost use Rattle.cells.specs.Cell.{within};
 
 pub fn wide(p: Pixels) -> usize
     ensures { λ r. ⌜ r ≡ p .0 ⌝ }

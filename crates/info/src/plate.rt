@@ -47,7 +47,7 @@ fn print_picture(g: Registers, words: &[u32], video: &[u32], cursor: &[u32]) -> 
             if !print_setting(g, s, video.len(), cursor.len()) {
                 return false;
             }
-            if frame::words_wrong(s, video, cursor) {
+            if cells::words_wrong(s, video, cursor) {
                 return print_verdict(b"picture", Answer::Refused(Refusal::WordCount), g, words);
             }
             print_marks(g, video, cursor) && print_verdict(b"picture", Answer::Done, g, words)

@@ -8,9 +8,9 @@ use lib.ListN.{getD}
 use lib.Pow.{shr-shr}
 use Rattle.registers.proofs.Accepted.{Depth}
 use Rattle.registers.proofs.Words.{depth-least}
-use Rattle.frame.proofs.PixelPlaces.{fills-byte, low-field, pixel-in}
+use Rattle.cells.proofs.PixelPlaces.{fills-byte, low-field, pixel-in}
 use Rattle.marks.specs.Count.{total}
-use Rattle.marks.specs.Bright.{Tabled, field, fieldBright, byteBright, pixelBright, wordBright, wordBrightAt}
+use Rattle.marks.specs.inner.Bright.{Tabled, field, fieldBright, byteBright, pixelBright, wordBright, wordBrightAt}
 use Rattle.marks.proofs.Totals.{total-as, total-rows}
 
 -- Pixel j of a word's byte b.

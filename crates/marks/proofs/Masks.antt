@@ -10,7 +10,7 @@ use lib.Pow.{pow-pos, pow-mono, shl-exact, shr-shr}
 use Rattle.registers.proofs.Accepted.{Depth}
 use Rattle.registers.proofs.Words.{depth-most}
 use Rattle.marks.specs.Count.{total}
-use Rattle.marks.specs.Bright.{Tabled, AtMost, fieldBright, byteBright}
+use Rattle.marks.specs.inner.Bright.{Tabled, AtMost, fieldBright, byteBright}
 use Rattle.marks.proofs.Totals.{total-more, total-most}
 use Rattle.marks.proofs.Tabled.{tabled-most}
 

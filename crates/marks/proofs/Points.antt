@@ -16,13 +16,13 @@ use Rattle.registers.proofs.Accepted.{Accepted}
 use Rattle.registers.proofs.Words.{depth-most}
 use Rattle.colours.specs.Colour.{colourOf}
 use Rattle.colours.specs.Grey.{greyOf}
-use Rattle.frame.specs.Pixel.{logical, position}
-use Rattle.frame.specs.Cell.{inDisplay, plainCode, covered, code, cell}
-use Rattle.frame.proofs.PixelPlaces.{pixel-below}
-use Rattle.frame.proofs.CellCodes.{cell-code, cell-colour, plain-five, code-five}
+use Rattle.cells.specs.Pixel.{logical, position}
+use Rattle.cells.specs.Cell.{inDisplay, plainCode, covered, code, cell}
+use Rattle.cells.proofs.PixelPlaces.{pixel-below}
+use Rattle.cells.proofs.Regions.{cell-code, cell-colour, plain-five, code-five}
 use Rattle.marks.specs.Count.{bit}
 use Rattle.marks.specs.Marks.{isMark}
-use Rattle.marks.specs.Bright.{Tabled, bright, coveredBright}
+use Rattle.marks.specs.inner.Bright.{Tabled, bright, coveredBright}
 
 -- Position x of raster y counts as a mark, and holds a bright pixel of the display.
 abbrev pub markIn : Registers → Setting → List ℕ → List ℕ → ℕ → ℕ → ℕ → ℕ
@@ -60,4 +60,4 @@ module _ (g : Registers) (s : Setting) (video cursor : List ℕ) (threshold : �
     pub point : markIn g s video cursor threshold y x + coveredBright s video cursor pixels y x ≡ displayBright s video pixels y x
     point =
         cases (covered s cursor x y) (eqb (plainCode s x y) 5) refl refl
-        ∙ ap (λ b. pick b (getD pixels (logical s video x y) 0) 0) (plain-five s x y a)
+        ∙ ap (λ b. pick b (getD pixels (logical s video x y) 0) 0) (plain-five s a x y)

@@ -7,19 +7,19 @@ use native.Mathlib.Nat.{mul-comm, add-sub-cancel-left}
 use native.Mathlib.Omega.{arith}
 use lib.Arith.{digits-div, digits-mod}
 use lib.Dec.{eqb}
-use borrow.Author.Tests.{lt-ltb}
 use Rattle.buffers.proofs.Tests.{no, and-split}
 use Rattle.buffers.proofs.Split.{is-false}
 use Rattle.registers.specs.Setting.{displayOn}
 use Rattle.registers.specs.declared.record.Registers.{Registers}
 use Rattle.registers.specs.declared.setting.Setting.{Setting}
 use Rattle.registers.proofs.Accepted.{Accepted}
-use Rattle.frame.specs.Cell.{inDisplay, plainCode, covered}
+use Rattle.cells.specs.Cell.{inDisplay, plainCode, covered}
 use Rattle.frame.specs.Frame.{frameCell}
-use Rattle.frame.proofs.CellCodes.{InDisplay, Covered, displayed, in-display, is-covered, plain-five}
+use Rattle.cells.specs.inner.Region.{InDisplay, Reached}
+use Rattle.cells.proofs.Regions.{display-inside, inside-display, display-on, covered-reached, plain-five}
 use Rattle.marks.specs.Count.{total, bit}
 use Rattle.marks.specs.Marks.{markAt, marksOf}
-use Rattle.marks.specs.Bright.{pixelBright, coveredBright, cursorBright, rasterBright, cursorRaster}
+use Rattle.marks.specs.inner.Bright.{pixelBright, coveredBright, cursorBright, rasterBright, cursorRaster}
 use Rattle.marks.proofs.Totals.{total-as, total-none, total-add, total-rows, total-window}
 use Rattle.marks.proofs.Points.{markIn, displayBright}
 
@@ -47,18 +47,18 @@ rows-add s f h e p =
 
 module _ (s : Setting) (a : Accepted s) (video cursor pixels : List ℕ) where
   display-none : (y x : ℕ) → (InDisplay s x y → ⊥) → displayBright s video pixels y x ≡ 0
-  display-none y x h = rw (is-false (inDisplay s x y) (λ e. h (displayed s x y e)))
+  display-none y x h = rw (is-false (inDisplay s x y) (λ e. h (display-inside s x y e)))
 
   display-row-none : (y : ℕ) → ((x : ℕ) → InDisplay s x y → ⊥) → total (displayBright s video pixels y) (s .n .0) ≡ 0
   display-row-none y h = total-none (displayBright s video pixels y) (s .n .0) (λ x l. display-none y x (h x))
 
-  covered-none : (y x : ℕ) → (InDisplay s x y → Covered s cursor x y → ⊥) → coveredBright s video cursor pixels y x ≡ 0
+  covered-none : (y x : ℕ) → (InDisplay s x y → Reached s x y → ⊥) → coveredBright s video cursor pixels y x ≡ 0
   covered-none y x h =
       rw (is-false (eqb (plainCode s x y) 5 && covered s cursor x y)
       (λ e. let p = and-split (eqb (plainCode s x y) 5) (covered s cursor x y) e in
-      h (displayed s x y (sym (plain-five s x y a) ∙ p .0)) (is-covered s x y cursor (p .1))))
+      h (display-inside s x y (sym (plain-five s a x y) ∙ p .0)) (covered-reached s a x y cursor (p .1))))
 
-  covered-row-none : (y : ℕ) → ((x : ℕ) → InDisplay s x y → Covered s cursor x y → ⊥) → total (coveredBright s video cursor pixels y) (s .n .0) ≡ 0
+  covered-row-none : (y : ℕ) → ((x : ℕ) → InDisplay s x y → Reached s x y → ⊥) → total (coveredBright s video cursor pixels y) (s .n .0) ≡ 0
   covered-row-none y h = total-none (coveredBright s video cursor pixels y) (s .n .0) (λ x l. covered-none y x (h x))
 
   -- A displayed raster's bright pixels are the next DE-DS pixels of the words.
@@ -67,13 +67,13 @@ module _ (s : Setting) (a : Accepted s) (video cursor pixels : List ℕ) where
       ≡ total (λ p. pixelBright pixels video (s .depth) (r * (s .de .0 - s .ds .0) + p)) (s .de .0 - s .ds .0)
   row-display r l =
       let y = s .vds .0 + r in
-      let on : displayOn s ≡ true = lt-ltb (s .vds .0) (s .vde .0) (omega arith) in
+      let w = s .de .0 - s .ds .0 in
       total-window (displayBright s video pixels y) (s .ds .0) (s .de .0 - s .ds .0) (s .n .0)
       (record { low = λ x m. display-none y x (λ d. omega arith); high = λ x m. display-none y x (λ d. omega (arith, a .ds-de)) })
       (λ x m. display-none y x (λ d. omega (arith, a .de-be, a .be-n)))
-      ∙ total-as (λ p. displayBright s video pixels y (s .ds .0 + p)) (λ p. pixelBright pixels video (s .depth) (r * (s .de .0 - s .ds .0) + p)) (s .de .0 - s .ds .0)
-      (λ p m. let here : InDisplay s (s .ds .0 + p) y = record { on = on; ds-x = omega arith; x-de = omega arith; vds-y = omega arith; y-vde = omega arith } in
-      rw (in-display s (s .ds .0 + p) y here, add-sub-cancel-left (s .vds .0) r, add-sub-cancel-left (s .ds .0) p))
+      ∙ total-as (λ p. displayBright s video pixels y (s .ds .0 + p)) (λ p. pixelBright pixels video (s .depth) (r * w + p)) w
+      (λ p m. let here : InDisplay s (s .ds .0 + p) y = record { left = omega arith; right = omega arith; above = omega arith; below = omega arith } in
+      rw (inside-display s (s .ds .0 + p) y here, add-sub-cancel-left (s .vds .0) r, add-sub-cancel-left (s .ds .0) p))
 
   pub display-total : displayOn s ≡ true
       → rowsTotal s (displayBright s video pixels)
@@ -92,7 +92,7 @@ module _ (s : Setting) (a : Accepted s) (video cursor pixels : List ℕ) where
   pub display-off : displayOn s ≡ false → rowsTotal s (displayBright s video pixels) ≡ 0
   display-off off =
       total-none (λ y. total (displayBright s video pixels y) (s .n .0)) (s .v .0)
-      (λ y l. display-row-none y (λ x d. no (sym off ∙ d .on)))
+      (λ y l. display-row-none y (λ x d. no (sym off ∙ display-on s x y d)))
 
   -- A raster's covered bright pixels are among the cursor's 32.
   row-covered : (y : ℕ) → total (coveredBright s video cursor pixels y) (s .n .0) ≡ rasterBright s video cursor pixels y
@@ -111,7 +111,8 @@ module _ (s : Setting) (a : Accepted s) (video cursor pixels : List ℕ) where
       total-window row (s .vcs .0) (s .vce .0 - s .vcs .0) (s .v .0)
       (record { low = λ y l. covered-row-none y (λ x d c. omega arith); high = λ y l. covered-row-none y (λ x d c. omega arith) })
       (λ y l. covered-row-none y (λ x d c. omega arith))
-      ∙ total-as (λ j. row (s .vcs .0 + j)) (λ j. rasterBright s video cursor pixels (s .vcs .0 + j)) (s .vce .0 - s .vcs .0) (λ j l. row-covered (s .vcs .0 + j))
+      ∙ total-as (λ j. row (s .vcs .0 + j)) (λ j. rasterBright s video cursor pixels (s .vcs .0 + j)) (s .vce .0 - s .vcs .0)
+      (λ j l. row-covered (s .vcs .0 + j))
 
   pub covered-off : s .cursor ≡ false → rowsTotal s (coveredBright s video cursor pixels) ≡ 0
   covered-off off =

@@ -13,7 +13,7 @@ use Rattle.registers.specs.declared.record.Registers.{Registers}
 use Rattle.colours.specs.Colour.{shownOf, colourOf}
 use Rattle.colours.specs.Grey.{greyOf}
 use Rattle.marks.specs.Count.{bit}
-use Rattle.marks.specs.Bright.{Tabled, AtMost, lit, bright, wordBright}
+use Rattle.marks.specs.inner.Bright.{Tabled, AtMost, lit, bright, wordBright}
 
 pub tabled-more : {table : List ℕ} {k v : ℕ} {f : ℕ → ℕ} → Tabled table k f → k < 256 → v ≡ f k → Tabled (set table k v) (k + 1) f
 tabled-more {table} {k} {v} {f} t l e =

@@ -1,3 +1,3 @@
 pub mod Count
-pub mod Bright
 pub mod Marks
+pub mod inner

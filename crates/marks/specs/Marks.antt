@@ -1,15 +1,16 @@
 -- The mark count for a threshold: the number of code 5 cells of the frame whose grey is at or above it.
 use Prim.Native.Nat.{ℕ, _/_, _%_}
 use mathlib.Core.Bool.{Bool, _&&_}
-use mathlib.Core.List.{List, [], _∷_}
+use mathlib.Core.List.{List}
 use lib.Dec.{leb, eqb}
-use Rattle.refusals.specs.Table.{Told, given, row, judged, andThen}
+use Rattle.refusals.specs.Table.{Told, given, judged}
 use Rattle.refusals.specs.Refusals.{refusal}
-use Rattle.registers.specs.Check.{checkTold}
+use Rattle.registers.specs.Setting.{settingOf}
 use Rattle.registers.specs.declared.record.Registers.{Registers}
 use Rattle.registers.specs.declared.setting.Setting.{Setting}
 use Rattle.colours.specs.Grey.{greyOf}
-use Rattle.frame.specs.Frame.{wordsWrong, cells, frameCell}
+use Rattle.cells.specs.Picture.{pictureTable}
+use Rattle.frame.specs.Frame.{cells, frameCell}
 use Rattle.marks.specs.Count.{countBelow}
 use Rattle.marks.specs.declared.answer.Marks.{Marks}
 use Rattle.marks.specs.declared.answer.Marks.the-variants.{Count, Refused}
@@ -25,11 +26,9 @@ markAt g s video cursor threshold k = isMark threshold (frameCell g s video curs
 unfoldable pub marksOf : Registers → Setting → List ℕ → List ℕ → ℕ → ℕ
 marksOf g s video cursor threshold = countBelow (markAt g s video cursor threshold) (cells s)
 
--- Refusals: the setting's, then 11.
+-- Refusals: the picture's.
 unfoldable pub marksTold : Registers → List ℕ → List ℕ → ℕ → Told ℕ
-marksTold g video cursor threshold =
-    andThen (checkTold g)
-    (λ s. judged (row 11 (wordsWrong s video cursor) 0 ∷ []) (marksOf g s video cursor threshold))
+marksTold g video cursor threshold = judged (pictureTable g video cursor) (marksOf g (settingOf g) video cursor threshold)
 
 -- What an answer tells.
 abbrev pub marksSays : Marks → Told ℕ

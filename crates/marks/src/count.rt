@@ -7,10 +7,10 @@ use registers::record::Registers;
 use registers::setting::Setting;
 ghost use mathlib.Core.Path.{_≡_};
 ghost use Rattle.marks.specs.Marks.{marksOf};
-ghost use Rattle.marks.specs.Bright.{Ready};
+ghost use Rattle.cells.specs.inner.Known.{Picture};
 
 pub fn count(g: Registers, s: Setting, video: &[u32], cursor: &[u32], threshold: u8) -> u32
-    requires { ⌜ Ready s (now video) (now cursor) ⌝ }
+    requires { ⌜ Picture s (now video) (now cursor) ⌝ }
     ensures { λ r. ⌜ r ≡ marksOf g s (now (video .entry)) (now (cursor .entry)) threshold ⌝ }
 {
     let pixels = bright_pixels(g, s.depth, threshold);

@@ -8,9 +8,10 @@ ghost use Prim.Native.Nat.{_+_, _*_, _/_, _%_, _^_, _<_, _≤_};
 ghost use lib.ListN.{length, getD};
 ghost use Rattle.registers.specs.Setting.{videoWords};
 ghost use Rattle.registers.proofs.Accepted.{Accepted};
-ghost use Rattle.frame.specs.Pixel.{position, logical};
-ghost use Rattle.frame.proofs.CellCodes.{InDisplay};
-ghost use Rattle.marks.specs.Bright.{Ready, OnCursor, cursorBright, cursorRaster, coveredAll};
+ghost use Rattle.cells.specs.Pixel.{position, logical};
+ghost use Rattle.cells.specs.inner.Region.{InDisplay};
+ghost use Rattle.cells.specs.inner.Known.{Picture};
+ghost use Rattle.marks.specs.inner.Bright.{OnCursor, cursorBright, cursorRaster, coveredAll};
 
 // Where a displayed position's pixel stands among all.
 fn place(s: Setting, x: Pixels, y: Rasters) -> usize
@@ -61,7 +62,7 @@ fn covered_at(
     j: usize,
     i: usize,
 ) -> u32
-    requires { ⌜ Ready s (now video) (now cursor) × OnCursor s (now cursor) j × (i < 32) ⌝ }
+    requires { ⌜ Picture s (now video) (now cursor) × OnCursor s (now cursor) j × (i < 32) ⌝ }
     ensures { λ r. ⌜ (r ≡ cursorBright s (now (video .entry)) (now (cursor .entry)) (now (pixels .entry)) (s .vcs .0 + j) i) × (r ≤ 255) ⌝ }
 {
     let x = Pixels(s.cx.0 + i as u16);
@@ -79,7 +80,7 @@ fn covered_at(
 
 // Cursor raster j: the sum over its 32 positions.
 fn covered_in(s: Setting, video: &[u32], cursor: &[u32], pixels: &[u8; 256], j: usize) -> u32
-    requires { ⌜ Ready s (now video) (now cursor) × (j < length (now cursor) / 2) ⌝ }
+    requires { ⌜ Picture s (now video) (now cursor) × (j < length (now cursor) / 2) ⌝ }
     ensures { λ r. ⌜ (r ≡ cursorRaster s (now (video .entry)) (now (cursor .entry)) (now (pixels .entry)) j) × (r ≤ 8160) ⌝ }
 {
     let y = Rasters(s.vcs.0 + j as u16);
@@ -100,7 +101,7 @@ fn covered_in(s: Setting, video: &[u32], cursor: &[u32], pixels: &[u8; 256], j: 
 
 // All that the cursor covers: two words a raster, and none where it is off.
 pub fn covered(s: Setting, video: &[u32], cursor: &[u32], pixels: &[u8; 256]) -> u32
-    requires { ⌜ Ready s (now video) (now cursor) ⌝ }
+    requires { ⌜ Picture s (now video) (now cursor) ⌝ }
     ensures { λ r. ⌜ r ≡ coveredAll s (now (video .entry)) (now (cursor .entry)) (now (pixels .entry)) ⌝ }
 {
     let end = cursor.len() / 2;

@@ -8,10 +8,9 @@ mod walk;
 
 use crate::answer::Marks;
 use crate::count::count;
-use frame::words_wrong;
+use cells::judge;
 use registers::check::Checked;
 use registers::record::Registers;
-use refusals::Refusal;
 ghost use mathlib.Core.Path.{_≡_};
 ghost use Rattle.marks.specs.Marks.{marksTold, marksSays};
 
@@ -19,13 +18,8 @@ ghost use Rattle.marks.specs.Marks.{marksTold, marksSays};
 pub fn marks(g: Registers, video: &[u32], cursor: &[u32], threshold: u8) -> Marks
     ensures { λ r. ⌜ marksSays r ≡ marksTold g (now (video .entry)) (now (cursor .entry)) threshold ⌝ }
 {
-    match g.check() {
+    match judge(g, video, cursor) {
         Checked::Refused(why) => Marks::Refused(why),
-        Checked::Accepted(s) => {
-            if words_wrong(s, video, cursor) {
-                return Marks::Refused(Refusal::WordCount);
-            }
-            Marks::Count(count(g, s, video, cursor, threshold))
-        }
+        Checked::Accepted(s) => Marks::Count(count(g, s, video, cursor, threshold)),
     }
 }

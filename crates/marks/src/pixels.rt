@@ -3,7 +3,7 @@ ghost use mathlib.Core.Path.{_≡_};
 ghost use Prim.Native.Nat.{_%_, _^_, _*_, _<_};
 ghost use lib.ListN.{length};
 ghost use Rattle.registers.proofs.Accepted.{Depth};
-ghost use Rattle.frame.specs.Pixel.{pixel};
+ghost use Rattle.cells.specs.Pixel.{pixel};
 
 // The low d bits of x.
 pub fn low_bits(x: u32, d: u32) -> usize

@@ -6,7 +6,7 @@ use colours::shown;
 use registers::record::Registers;
 ghost use mathlib.Core.Path.{_≡_};
 ghost use Rattle.registers.proofs.Accepted.{Depth};
-ghost use Rattle.marks.specs.Bright.{Tabled, AtMost, lit, bright, byteBright};
+ghost use Rattle.marks.specs.inner.Bright.{Tabled, AtMost, lit, bright, byteBright};
 
 // 1 if the grey that an entry shows for a pixel is at or above the threshold, else 0.
 fn is_bright(entry: u16, depth: u8, threshold: u8, pixel: u8) -> u8

@@ -3,7 +3,7 @@ ghost use mathlib.Core.Path.{_≡_};
 ghost use Prim.Native.Nat.{_*_, _-_, _≤_};
 ghost use lib.ListN.{length};
 ghost use Rattle.marks.specs.Count.{total};
-ghost use Rattle.marks.specs.Bright.{AtMost, wordBright, wordBrightAt, wordFrom};
+ghost use Rattle.marks.specs.inner.Bright.{AtMost, wordBright, wordBrightAt, wordFrom};
 
 // What the table has for the four bytes of a word.
 fn in_word(bytes: &[u32; 256], word: u32) -> u32
@@ -19,7 +19,8 @@ fn in_word(bytes: &[u32; 256], word: u32) -> u32
 // The sum over the words from place `from` on.
 fn in_rest(bytes: &[u32; 256], words: &[u32], from: usize) -> u32
     requires { ⌜ AtMost (now bytes) 255 × (length (now words) ≤ 0x8_0000) × (from ≤ length (now words)) ⌝ }
-    ensures { λ r. ⌜ (r ≡ total (wordFrom (now (bytes .entry)) (now (words .entry)) from) (length (now (words .entry)) - from)) × (r ≤ 1020 * (length (now (words .entry)) - from)) ⌝ }
+    ensures { λ r. ⌜ (r ≡ total (wordFrom (now (bytes .entry)) (now (words .entry)) from) (length (now (words .entry)) - from))
+        × (r ≤ 1020 * (length (now (words .entry)) - from)) ⌝ }
 {
     let mut sum: u32 = 0;
     let mut k: usize = 0;

@@ -15,38 +15,22 @@ use Rattle.refusals.specs.Table.{why, Told, given, refused, andThen, unlessRefu
 use Rattle.refusals.specs.Refusals.{refusal, answerSays}
 use Rattle.registers.specs.Record.{fresh}
 use Rattle.registers.specs.Load.{applied, loadTold}
-use Rattle.registers.specs.Check.{checkTold, checkSays}
+use Rattle.registers.specs.Check.{checkSays}
 use Rattle.registers.specs.declared.record.Registers.{Registers}
 use Rattle.refusals.specs.declared.Refusal.{Refusal}
 use Rattle.refusals.specs.declared.Answer.the-variants as answer
 use Rattle.registers.specs.declared.setting.Setting.{Setting}
-use Rattle.registers.specs.declared.check.Checked.{Checked}
-use Rattle.registers.specs.declared.check.Checked.the-variants as checked
 use Rattle.refusals.proofs.Tables.{never}
-use Rattle.frame.specs.Frame.{wordsWrong}
+use Rattle.cells.specs.Picture.{pictureTold}
 use Rattle.plates.specs.Plate.{rOf, sectionsOf}
 use Rattle.plates.specs.Read.{readSays, readTold, copyTold, copied}
 use Rattle.plates.specs.declared.Sections.{Sections}
 use Rattle.plates.specs.declared.Reading.{Reading}
 use Rattle.plates.specs.declared.Reading.the-variants as reading
 use Rattle.plates.proofs.Calls.{right-given, right-ordered, copy-done}
-use Rattle.runs.specs.Sheet.{mostInput, part, registerWords, videoList, cursorList, soundList, registersOf, takenTold, pictureTold, sheetTold, Held, TakenFrom, OpenedFrom}
+use Rattle.runs.specs.Sheet.{mostInput, part, registerWords, videoList, cursorList, soundList, registersOf, takenTold, sheetTold, Held, TakenFrom, OpenedFrom}
 use Rattle.runs.specs.declared.sheet.Taken.{Taken}
 use Rattle.runs.specs.declared.sheet.Opened.{Opened}
-
--- judging a setting and its word counts
-module _ (g : Registers) (video cursor : List ℕ) (x : Checked) (e : checkSays x ≡ checkTold g) where
-  pub picture-refused : (why : Refusal) → x ≡ checked.Refused why → refusal why ≡ pictureTold g video cursor
-  unfolding pictureTold
-  picture-refused why q = rw (← e, q)
-
-  pub picture-wrong : (s : Setting) → x ≡ checked.Accepted s → wordsWrong s video cursor ≡ true → refused (why 11 0) ≡ pictureTold g video cursor
-  unfolding pictureTold
-  picture-wrong s q w = rw (← e, q, w)
-
-  pub picture-right : (s : Setting) → x ≡ checked.Accepted s → wordsWrong s video cursor ≡ false → given s ≡ pictureTold g video cursor
-  unfolding pictureTold
-  picture-right s q w = rw (← e, q, w)
 
 -- a file taken apart
 module _ (file words : List ℕ) (r : Taken) where

@@ -1,59 +1,49 @@
 -- Laws of the lines: cells painted are the cells of the line, and a picture that is not refused has its marks and its rasters.
 use Prim.Native.Nat.{ℕ, _-_, _<_, _≤_}
-use mathlib.Core.Path.{_≡_, refl, sym, _∙_, ap}
-use mathlib.Core.Bool.{false}
-use mathlib.Core.List.{List, [], _∷_}
+use mathlib.Core.Path.{_≡_, sym, _∙_, ap}
+use mathlib.Core.List.{List, []}
 use native.Mathlib.Nat.{sub-zero}
 use native.Mathlib.Omega.{arith}
 use lib.ListN.{length, take}
 use borrow.Author.Tests.{lt-leb, le-leb, eq-eqb, ne-eqb}
 use Rattle.buffers.specs.Values.{valuesFrom}
 use Rattle.buffers.proofs.Values.{painted-values}
-use Rattle.refusals.specs.Table.{Told, given, refused, judged, row, andThen}
+use Rattle.refusals.specs.Table.{Told, given, refused, andThen}
 use Rattle.refusals.specs.Refusals.{whyOf}
-use Rattle.registers.specs.Check.{checkTold, checkSays}
+use Rattle.registers.specs.Check.{checkSays}
 use Rattle.registers.specs.declared.record.Registers.{Registers}
 use Rattle.refusals.specs.declared.Refusal.{Refusal}
 use Rattle.registers.specs.declared.setting.Setting.{Setting}
 use Rattle.registers.specs.declared.check.Checked.the-variants as checked
-use Rattle.refusals.proofs.Tables.{never, given-passes}
-use Rattle.registers.proofs.Accepted.{Accepted, accepted}
-use Rattle.frame.specs.Frame.{wordsWrong, rasterCell, rasterLeaves}
+use Rattle.refusals.proofs.Tables.{never}
+use Rattle.registers.proofs.Accepted.{Accepted}
+use Rattle.cells.specs.Picture.{pictureTold}
+use Rattle.cells.proofs.Pictures.{given-picture}
+use Rattle.frame.specs.Frame.{rasterCell, rasterLeaves}
 use Rattle.frame.proofs.Calls.{raster-held}
 use Rattle.marks.specs.Marks.{marksOf, marksTold, marksSays}
-use Rattle.marks.proofs.Answers.{marks-told}
+use Rattle.marks.proofs.Answers.{marks-counted}
 use Rattle.marks.specs.declared.answer.Marks.{Marks}
 use Rattle.marks.specs.declared.answer.Marks.the-variants as marks
 use Rattle.runs.specs.Runs.{lineOf}
 use Rattle.buffers.specs.Put.{Put}
-use Rattle.runs.specs.Sheet.{registersOf, videoList, cursorList, takenTold, pictureTold, sheetTold, Held, OpenedFrom}
+use Rattle.runs.specs.Sheet.{registersOf, videoList, cursorList, takenTold, sheetTold, Held, OpenedFrom}
 use Rattle.runs.specs.Text.{refusedLine, rasterLine, pictureHead, pictureLine, lineFor, lineAt, linesFor, sheetLine, Sheet}
 use Rattle.runs.specs.declared.sheet.Opened.{Opened}
 
 -- a picture that is not refused
 module _ (g : Registers) (video cursor : List ℕ) (s : Setting) (e : pictureTold g video cursor ≡ given s) where
-  picture-parts : (checkTold g ≡ given s) × (wordsWrong s video cursor ≡ false)
-  unfolding pictureTold
-  picture-parts = go (checkTold g) refl e
-    where
-      go : (t : Told Setting) → checkTold g ≡ t → andThen t (λ s. judged (row 11 (wordsWrong s video cursor) 0 ∷ []) s) ≡ given s
-          → (checkTold g ≡ given s) × (wordsWrong s video cursor ≡ false)
-      go (refused w) q h = never (sym h)
-      go (given z) q h =
-          let p = given-passes z (row 11 (wordsWrong z video cursor) 0 ∷ []) s h in
-          (q ∙ ap given (p .1), sym (ap (λ (x : Setting). wordsWrong x video cursor) (p .1)) ∙ p .0 .0)
-
   pub picture-accepted : Accepted s
-  picture-accepted = accepted g s (picture-parts .0)
+  picture-accepted = given-picture g video cursor s e .accepted
 
   pub marks-given : (threshold : ℕ) → marksTold g video cursor threshold ≡ given (marksOf g s video cursor threshold)
-  marks-given threshold = marks-told g s video cursor threshold (picture-parts .0) (picture-parts .1)
+  marks-given threshold = marks-counted g video cursor threshold s e
 
   -- the cells of a raster, as they stand in lent memory
   pub raster-values : (y : ℕ) (o cells : List ℕ) → y < s .v .0 → s .n .0 ≤ length o → cells ≡ rasterLeaves g video cursor y o
       → take (s .n .0) cells ≡ valuesFrom (rasterCell g s video cursor y) 0 (s .n .0)
   raster-values y o cells a b h =
-      ap (take (s .n .0)) (h ∙ raster-held g s video cursor y (picture-parts .0) (picture-parts .1) a o b)
+      ap (take (s .n .0)) (h ∙ raster-held g video cursor o y s e a b)
       ∙ painted-values o (s .n .0) (rasterCell g s video cursor y) b
 
   pub marks-are : (x : Marks) (m : ℕ) → marksSays x ≡ marksTold g video cursor 128 → x ≡ marks.Count m → m ≡ marksOf g s video cursor 128

@@ -8,10 +8,10 @@ use Rattle.refusals.specs.Table.{Told, given, row, judged, andThen}
 use Rattle.refusals.specs.Refusals.{answerSays}
 use Rattle.registers.specs.Record.{fresh}
 use Rattle.registers.specs.Load.{applied, loadTold}
-use Rattle.registers.specs.Check.{checkTold, checkSays}
+use Rattle.registers.specs.Check.{checkSays}
 use Rattle.registers.specs.declared.record.Registers.{Registers}
 use Rattle.registers.specs.declared.setting.Setting.{Setting}
-use Rattle.frame.specs.Frame.{wordsWrong}
+use Rattle.cells.specs.Picture.{pictureTold}
 use Rattle.plates.specs.Plate.{rOf, vOf, cOf, sOf}
 use Rattle.plates.specs.Read.{readTold, copied}
 use Rattle.runs.specs.declared.sheet.Parts.{Parts}
@@ -47,10 +47,6 @@ takenTold file =
     andThen (judged (row 15 (ltb mostInput (length file)) 0 ∷ []) (length file))
     (λ _. andThen (readTold file)
     (λ _. loadTold (registerWords file)))
-
--- The setting, and both word counts right.
-unfoldable pub pictureTold : Registers → List ℕ → List ℕ → Told Setting
-pictureTold g video cursor = andThen (checkTold g) (λ s. judged (row 11 (wordsWrong s video cursor) 0 ∷ []) s)
 
 unfoldable pub sheetTold : List ℕ → Told Setting
 sheetTold file = andThen (takenTold file) (λ _. pictureTold (registersOf file) (videoList file) (cursorList file))

@@ -9,11 +9,12 @@ use Rattle.buffers.specs.Values.{valuesFrom}
 use Rattle.refusals.specs.Table.{Why, Told, given, refused}
 use Rattle.registers.specs.declared.record.Registers.{Registers}
 use Rattle.registers.specs.declared.setting.Setting.{Setting}
+use Rattle.cells.specs.Picture.{pictureTold}
 use Rattle.frame.specs.Frame.{rasterCell}
 use Rattle.marks.specs.Marks.{marksOf}
 use Rattle.runs.specs.Decimal.{decimal}
 use Rattle.runs.specs.Runs.{lineOf}
-use Rattle.runs.specs.Sheet.{part, registersOf, videoList, cursorList, pictureTold, sheetTold}
+use Rattle.runs.specs.Sheet.{part, registersOf, videoList, cursorList, sheetTold}
 use Rattle.runs.specs.declared.sheet.Parts.{Parts}
 
 -- A number behind some letters.

@@ -1,4 +1,5 @@
 // A plate taken apart, its words copied out: 15, 14, 1, 2; and judged for its picture: 3 to 9, 11.
+use cells::judge;
 use plates::Reading;
 use registers::check::Checked;
 use registers::record::Registers;
@@ -7,9 +8,8 @@ use refusals::Refusal;
 ghost use mathlib.Core.Path.{_≡_};
 ghost use Prim.Native.Nat.{_≤_};
 ghost use lib.ListN.{length};
-ghost use Rattle.registers.specs.Check.{checkSays};
 ghost use Rattle.refusals.specs.Refusals.{answerSays, refusal};
-ghost use Rattle.runs.specs.Sheet.{pictureTold, TakenFrom, OpenedFrom};
+ghost use Rattle.runs.specs.Sheet.{TakenFrom, OpenedFrom};
 
 // The most bytes that the programs take.
 const MOST_INPUT: usize = 65_536;
@@ -80,21 +80,6 @@ pub fn take(file: &[u8], words: &mut [u32]) -> Taken
                 parts: parts,
                 answer: answer,
             }
-        }
-    }
-}
-
-// The setting, and both word counts right.
-fn judge(g: Registers, video: &[u32], cursor: &[u32]) -> Checked
-    ensures { λ r. ⌜ checkSays r ≡ pictureTold g (now (video .entry)) (now (cursor .entry)) ⌝ }
-{
-    match g.check() {
-        Checked::Refused(why) => Checked::Refused(why),
-        Checked::Accepted(s) => {
-            if frame::words_wrong(s, video, cursor) {
-                return Checked::Refused(Refusal::WordCount);
-            }
-            Checked::Accepted(s)
         }
     }
 }

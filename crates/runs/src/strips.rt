@@ -11,7 +11,7 @@ ghost use Prim.Native.Nat.{_<_, _≤_};
 ghost use lib.ListN.{length};
 ghost use Rattle.buffers.specs.Put.{Put};
 ghost use Rattle.refusals.specs.Table.{given};
-ghost use Rattle.runs.specs.Sheet.{pictureTold};
+ghost use Rattle.cells.specs.Picture.{pictureTold};
 ghost use Rattle.runs.specs.Text.{Sheet};
 ghost use Rattle.runs.specs.Strip.{rasterStrip, sheetStrip, stripAt};
 

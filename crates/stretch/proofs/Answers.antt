@@ -1,59 +1,63 @@
--- What the two calls tell, from what the check tells.
+-- What the two calls tell, from what the check tells: the setting's rows and those behind them are one table.
 use Prim.Native.Nat.{ℕ, _+_, _*_, _-_, _≤_}
 use mathlib.Core.List.{List, []}
-use mathlib.Core.Path.{_≡_, refl, sym, _∙_, ap}
+use mathlib.Core.Path.{_≡_, sym, _∙_, ap}
 use native.Mathlib.Nat.{add-sub-cancel-left}
 use native.Mathlib.Omega.{arith}
 use borrow.Author.Tests.{eqb-true, not-false}
-use lib.Dec.{eqb}
 use lib.ListN.{length, take, drop}
 use denote.Ref.{RefT, ptr, now}
-use Rattle.refusals.specs.Table.{Told, given, refused, judged, andThen}
+use Rattle.refusals.specs.Table.{Told, given, judged, andThen, Passes}
 use Rattle.refusals.specs.Refusals.{refusal}
-use Rattle.registers.specs.Setting.{videoWords}
-use Rattle.registers.specs.Check.{checkTold, checkSays}
+use Rattle.registers.specs.Setting.{settingOf, videoWords}
+use Rattle.registers.specs.Check.{settingTable, checkTold, checkSays}
 use Rattle.registers.specs.declared.record.Registers.{Registers}
 use Rattle.registers.specs.declared.setting.Setting.{Setting}
 use Rattle.refusals.specs.declared.Refusal.{Refusal}
 use Rattle.registers.specs.declared.check.Checked.{Checked}
 use Rattle.registers.specs.declared.check.Checked.the-variants as checked
-use Rattle.refusals.proofs.Tables.{never, given-passes}
+use Rattle.refusals.proofs.Tables.{passed, passes-first, passes-given, given-passes, and-then-judged}
 use Rattle.registers.proofs.Accepted.{Accepted, accepted}
-use Rattle.stretch.specs.Stretch.{stretchOf, stretchTable, stretchTold, foundSays, PartOf, answerTold}
+use Rattle.stretch.specs.Stretch.{stretchOf, rasterRows, stretchTable, stretchTold, foundSays, PartOf, answerTold}
 use Rattle.stretch.specs.declared.found.Stretch.{Stretch}
 use Rattle.stretch.specs.declared.found.Found.{Found}
 use Rattle.stretch.specs.declared.found.Found.the-variants as found
 use Rattle.stretch.proofs.Stretches.{stretch-room}
+use Rattle.stretch.proofs.Told.{stretch-told}
 
-module _ (g : Registers) (video : List ℕ) (y : ℕ) (x : Checked) (c : checkSays x ≡ checkTold g) where
-  pub find-refused : {why : Refusal} → x ≡ checked.Refused why → refusal why ≡ stretchTold g video y
-  unfolding stretchTold
-  find-refused e = rw (← c, e)
+module _ (g : Registers) (video : List ℕ) (y : ℕ) where
+  -- First the setting, then the rows behind it.
+  stretch-then : stretchTold g video y ≡ andThen (checkTold g) (λ s. judged (rasterRows s video y) (stretchOf s y))
+  unfolding checkTold
+  stretch-then = stretch-told g video y ∙ sym (and-then-judged (settingOf g) (settingTable g) (λ s. rasterRows s video y) (λ s. stretchOf s y))
 
-  module _ {s : Setting} (e : x ≡ checked.Accepted s) where
-    told : checkTold g ≡ given s
-    told = sym c ∙ ap checkSays e
+  module _ (x : Checked) (c : checkSays x ≡ checkTold g) where
+    pub find-refused : {why : Refusal} → x ≡ checked.Refused why → refusal why ≡ stretchTold g video y
+    find-refused e = rw (stretch-then, ← c, e)
 
-    pub find-accepted : Accepted s
-    find-accepted = accepted g s told
+    module _ {s : Setting} (e : x ≡ checked.Accepted s) where
+      pub find-accepted : Accepted s
+      find-accepted = accepted g s (sym c ∙ ap checkSays e)
 
-    pub find-given : {t : Told Stretch} → t ≡ judged (stretchTable s video y) (stretchOf s y) → t ≡ stretchTold g video y
-    unfolding stretchTold
-    find-given h = rw told h
+      pub find-given : {t : Told Stretch} → t ≡ judged (rasterRows s video y) (stretchOf s y) → t ≡ stretchTold g video y
+      find-given h = let told : checkTold g ≡ given s = sym c ∙ ap checkSays e in rw (stretch-then, told) h
 
--- A stretch that is given lies within the words.
-module _ (g : Registers) (video : List ℕ) (y : ℕ) {p : Stretch} where
-  room-by : (t : Told Setting) → checkTold g ≡ t → andThen t (λ s. judged (stretchTable s video y) (stretchOf s y)) ≡ given p
-      → p .start + p .count ≤ length video
-  room-by (given s) e h =
-      let w = given-passes (stretchOf s y) (stretchTable s video y) p h in
-      let words : length video ≡ videoWords s = eqb-true (length video) (videoWords s) (not-false (eqb (length video) (videoWords s)) (w .0 .0)) in
-      rw (← w .1, words) (stretch-room s y (accepted g s e))
-  room-by (refused w) e h = never (sym h)
+  -- Where the table is passed, the setting is accepted and the list as long as it needs.
+  pub passes-accepted : Passes (stretchTable g video y) → Accepted (settingOf g)
+  unfolding checkTold
+  passes-accepted p =
+      let s = settingOf g in
+      accepted g s (passes-given s (settingTable g) (passes-first (settingTable g) (rasterRows s video y) p))
 
-  given-room : stretchTold g video y ≡ given p → p .start + p .count ≤ length video
-  unfolding stretchTold
-  given-room h = room-by (checkTold g) refl h
+  passes-words : Passes (stretchTable g video y) → length video ≡ videoWords (settingOf g)
+  passes-words p = eqb-true (length video) (videoWords (settingOf g)) (not-false _ (passed 11 (stretchTable g video y) p))
+
+  -- A stretch that is given lies within the words.
+  given-room : {p : Stretch} → stretchTold g video y ≡ given p → p .start + p .count ≤ length video
+  given-room {p} h =
+      let s = settingOf g in
+      let w = given-passes (stretchOf s y) (stretchTable g video y) p (sym (stretch-told g video y) ∙ h) in
+      rw (← w .1, passes-words (w .0)) (stretch-room s y (passes-accepted (w .0)))
 
 module _ (g : Registers) (video : List ℕ) (y : ℕ) (x : Found) (c : foundSays x ≡ stretchTold g video y) where
   pub answer-refused : {why : Refusal} → x ≡ found.Refused why → refusal why ≡ answerTold (stretchTold g video y)

@@ -1,4 +1,4 @@
 pub mod Stretches
-pub mod Pixels
+pub mod Told
 pub mod Answers
 pub mod Unique

@@ -1,20 +1,21 @@
 -- The words of one displayed raster: that stretch of the caller's own list.
-use Prim.Native.Nat.{ℕ, _+_, _*_, _-_}
+use Prim.Native.Nat.{ℕ, _+_, _*_}
 use mathlib.Core.Path.{_≡_}
 use mathlib.Core.Bool.{Bool, _&&_}
-use mathlib.Core.List.{List, [], _∷_}
+use mathlib.Core.List.{List, [], _∷_, _++_}
 use lib.Dec.{leb}
 use lib.ListN.{take, drop}
 use denote.Ref.{RefT, ptr, now}
 use Rattle.buffers.specs.Pick.{pick}
 use Rattle.refusals.specs.Table.{Told, given, refused, Row, row, judged, andThen}
 use Rattle.refusals.specs.Refusals.{refusal}
-use Rattle.registers.specs.Setting.{displayOn, rasterWords}
-use Rattle.registers.specs.Check.{checkTold}
+use Rattle.registers.specs.Setting.{settingOf, displayOn, rasterWords}
+use Rattle.registers.specs.Check.{settingTable}
 use Rattle.registers.specs.declared.record.Registers.{Registers}
 use Rattle.registers.specs.declared.setting.Setting.{Setting}
-use Rattle.frame.specs.Cell.{within}
-use Rattle.frame.specs.Frame.{videoWrong}
+use Rattle.cells.specs.Cell.{within}
+use Rattle.cells.specs.Pixel.{firstWord}
+use Rattle.cells.specs.Picture.{videoWrong}
 use Rattle.stretch.specs.declared.found.Stretch.{Stretch}
 use Rattle.stretch.specs.declared.found.Found.{Found}
 use Rattle.stretch.specs.declared.found.Found.the-variants.{At, Refused}
@@ -28,17 +29,20 @@ none = record { start = 0; count = 0 }
 
 -- Nothing is skipped between rasters. An undisplayed raster has no words.
 unfoldable pub stretchOf : Setting → ℕ → Stretch
-stretchOf s y = pick (isDisplayed s y) (record { start = (y - s .vds .0) * rasterWords s; count = rasterWords s }) none
+stretchOf s y = pick (isDisplayed s y) (record { start = firstWord s y; count = rasterWords s }) none
 
--- Refusals: the setting's, 11 for the video count alone, 12.
-abbrev pub stretchTable : Setting → List ℕ → ℕ → List Row
-stretchTable s video y =
+-- Refusals: the setting's, then 11 for the video count alone, 12.
+abbrev pub rasterRows : Setting → List ℕ → ℕ → List Row
+rasterRows s video y =
     row 11 (videoWrong s video) 0
     ∷ row 12 (leb (s .v .0) y) 0
     ∷ []
 
+abbrev pub stretchTable : Registers → List ℕ → ℕ → List Row
+stretchTable g video y = settingTable g ++ rasterRows (settingOf g) video y
+
 unfoldable pub stretchTold : Registers → List ℕ → ℕ → Told Stretch
-stretchTold g video y = andThen (checkTold g) (λ s. judged (stretchTable s video y) (stretchOf s y))
+stretchTold g video y = judged (stretchTable g video y) (stretchOf (settingOf g) y)
 
 abbrev pub foundSays : Found → Told Stretch
 foundSays (At p) = given p

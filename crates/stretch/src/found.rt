@@ -1,13 +1,13 @@
 // Where a raster's words stand in the caller's list.
+use refusals::Refusal;
 use registers::check::Checked;
 use registers::record::Registers;
-use refusals::Refusal;
 use registers::setting::Setting;
 use registers::units::Rasters;
 ghost use mathlib.Core.Path.{_≡_};
 ghost use Rattle.refusals.specs.Table.{judged};
 ghost use Rattle.registers.proofs.Accepted.{Accepted};
-ghost use Rattle.stretch.specs.Stretch.{stretchTable, stretchOf, stretchTold, foundSays};
+ghost use Rattle.stretch.specs.Stretch.{rasterRows, stretchOf, stretchTold, foundSays};
 
 pub struct Stretch {
     pub start: usize,
@@ -40,7 +40,7 @@ fn stretch_of(s: Setting, y: Rasters) -> Stretch
 // 11 for the video count alone, 12, or the stretch.
 fn judge(s: Setting, video: &[u32], y: Rasters) -> Found
     requires { ⌜ Accepted s ⌝ }
-    ensures { λ r. ⌜ foundSays r ≡ judged (stretchTable s (now (video .entry)) (y .0)) (stretchOf s (y .0)) ⌝ }
+    ensures { λ r. ⌜ foundSays r ≡ judged (rasterRows s (now (video .entry)) (y .0)) (stretchOf s (y .0)) ⌝ }
 {
     if video.len() as u64 != s.video_words() {
         return Found::Refused(Refusal::WordCount);

@@ -3,8 +3,8 @@ pub mod found;
 
 use crate::found::Found;
 use crate::found::find;
-use registers::record::Registers;
 use refusals::Answer;
+use registers::record::Registers;
 use registers::units::Rasters;
 ghost use mathlib.Core.Path.{_≡_};
 ghost use Rattle.refusals.specs.Refusals.{answerSays};

@@ -1,3 +1,4 @@
+-- What the search found, without where: its refusal, or none.
 use Rattle.stretch.proofs.Answers.{answer-refused, answer-given}
 use borrow.Author.Needs.{needs}
 use Rattle.stretch.proofs.raster_words_answer.Statement.{statement}

@@ -1,8 +1,9 @@
+-- Byte after byte: after each turn the table holds the cells of all bytes below b, each made from those of a byte before it.
 use lib.ListN.{getD}
 use mathlib.Core.Path.{_≡_, ap, _∙_}
 use Rattle.frame.proofs.ByteCells.{one-shifted, low-bits, first-byte, rest-before, rest-room, byte-cells, byte-turn}
 use Rattle.frame.proofs.Words.{part-room}
-use Rattle.frame.specs.Ink.{bytesInk}
+use Rattle.frame.specs.inner.Ink.{bytesInk}
 use Rattle.buffers.proofs.Paints.{Paints, paint-none, paint-next, paints-painted}
 use Prim.Native.Nat.{ℕ, _*_, _-_, _%_, _≤_}
 use lib.Pow.{pow-pos}
@@ -56,21 +57,42 @@ cast-behind c = let l = c .before .before .before .loop in
     omega (arith, rest-before (s .args .per) (s .args .d) (l .b) (l .inv .0) (s .pre .3), c .before .before .loop-test .taken)
 
 mul-behind : tie.Need-mul-behind Inv-loop μ-loop
-mul-behind c = let l = c .before .before .before .loop in
+mul-behind c =
+    let l = c .before .before .before .loop in
     let s = c .before .before .before .before .before .before .before .before .before .before in
-    omega (arith, rest-room (s .args .per) (s .args .d) (l .b) (l .inv .0) (s .pre .3), part-room (l .b) 256 (s .args .per) (c .before .before .loop-test .taken), s .pre .2)
+    omega (
+      arith,
+      rest-room (s .args .per) (s .args .d) (l .b) (l .inv .0) (s .pre .3),
+      part-room (l .b) 256 (s .args .per) (c .before .before .loop-test .taken),
+      s .pre .2,
+    )
 
 behind-requires : tie.Need-behind-requires Inv-loop μ-loop
-behind-requires c κs = let l = c .before .before .before .loop in
+behind-requires c κs =
+    let l = c .before .before .before .loop in
     let s = c .before .before .before .before .before .before .before .before .before .before in
-    let first = first-byte (s .args .shades .now) (s .args .per) (s .args .d) _ _ (s .pre .2) (omega (arith, s .pre .0)) (c .before .before .before .before .before .before .put .ensures) in
-    (s .pre .1, s .pre .2, omega (arith, rest-room (s .args .per) (s .args .d) (l .b) (l .inv .0) (s .pre .3), part-room (l .b) 256 (s .args .per) (c .before .before .loop-test .taken), s .pre .0, l .inv .3 .len, first .len))
+    let put = c .before .before .before .before .before .before .put in
+    let first = first-byte (s .args .shades .now) (s .args .per) (s .args .d) _ _ (s .pre .2) (omega (arith, s .pre .0)) (put .ensures) in (
+      s .pre .1,
+      s .pre .2,
+      omega (
+        arith,
+        rest-room (s .args .per) (s .args .d) (l .b) (l .inv .0) (s .pre .3),
+        part-room (l .b) 256 (s .args .per) (c .before .before .loop-test .taken),
+        s .pre .0,
+        l .inv .3 .len,
+        first .len,
+      ),
+    )
 
 put-requires-2 : tie.Need-put-requires-2 Inv-loop μ-loop
-put-requires-2 c κs = let l = c .before .before .before .before .before .loop in
+put-requires-2 c κs =
+    let l = c .before .before .before .before .before .loop in
     let s = c .before .before .before .before .before .before .before .before .before .before .before .before in
-    let first = first-byte (s .args .shades .now) (s .args .per) (s .args .d) _ _ (s .pre .2) (omega (arith, s .pre .0)) (c .before .before .before .before .before .before .before .before .put .ensures) in
-    (s .pre .2, omega (arith, part-room (l .b) 256 (s .args .per) (c .before .before .before .before .loop-test .taken), s .pre .0, l .inv .2, l .inv .3 .len, first .len))
+    let put = c .before .before .before .before .before .before .before .before .put in
+    let test = c .before .before .before .before .loop-test in
+    let first = first-byte (s .args .shades .now) (s .args .per) (s .args .d) _ _ (s .pre .2) (omega (arith, s .pre .0)) (put .ensures) in
+    (s .pre .2, omega (arith, part-room (l .b) 256 (s .args .per) (test .taken), s .pre .0, l .inv .2, l .inv .3 .len, first .len))
 
 add-k : tie.Need-add-k Inv-loop μ-loop
 add-k c = let l = c .before .before .before .before .before .before .before .before .loop in
@@ -84,22 +106,37 @@ loop-less : tie.Need-loop-less Inv-loop μ-loop
 loop-less c = search needs
 
 loop-again : tie.Need-loop-again Inv-loop μ-loop
-loop-again c = let l = c .before .before .before .before .before .before .before .before .loop in
+loop-again c =
+    let l = c .before .before .before .before .before .before .before .before .loop in
     let s = c .before .before .before .before .before .before .before .before .before .before .before .before .before .before .before in
-    let first = first-byte (s .args .shades .now) (s .args .per) (s .args .d) _ _ (s .pre .2) (omega (arith, s .pre .0)) (c .before .before .before .before .before .before .before .before .before .before .before .put .ensures) in
-    let room = part-room (l .b) 256 (s .args .per) (c .before .before .before .before .before .before .before .loop-test .taken) in
-    let so-far = paint-next (omega arith) (omega (arith, mul-le-mul-right (s .args .per) (l .inv .0), l .inv .2)) first (l .inv .3) in
-    (omega arith, omega arith, omega (arith, l .inv .2), byte-turn (s .args .shades .now) _ (s .args .per) (s .args .d) (l .b) (l .k) (l .inv .2) (byte-cells (s .args .shades .now) (s .args .per) (s .args .d) (l .b) (l .inv .0) (s .pre .3) _ _ _ _ (s .pre .2) (rw (l .inv .2) at so-far) (ap (λ (m : ℕ). getD (s .args .shades .now) (l .b % m) 0) (one-shifted (s .args .d) (s .pre .4))) (c .before .before .before .before .behind .ensures)) (s .args .per) _ _ _ (omega (arith, mul-le-mul-right (s .args .per) (l .inv .0), l .inv .2)) (omega (arith, room, s .pre .0, l .inv .2, first .len)) (l .inv .3) (c .before .before .put2 .ensures))
+    let put = c .before .before .before .before .before .before .before .before .before .before .before .put in
+    let test = c .before .before .before .before .before .before .before .loop-test in
+    let behind = c .before .before .before .before .behind in
+    let first = first-byte (s .args .shades .now) (s .args .per) (s .args .d) _ _ (s .pre .2) (omega (arith, s .pre .0)) (put .ensures) in
+    let room = part-room (l .b) 256 (s .args .per) (test .taken) in
+    let so-far = paint-next (omega arith) (omega (arith, mul-le-mul-right (s .args .per) (l .inv .0), l .inv .2)) first (l .inv .3) in (
+      omega arith,
+      omega arith,
+      omega (arith, l .inv .2),
+      byte-turn (s .args .shades .now) _ (s .args .per) (s .args .d) (l .b) (l .k) (l .inv .2)
+          (byte-cells (s .args .shades .now) (s .args .per) (s .args .d) (l .b) (l .inv .0) (s .pre .3) _ _ _ _ (s .pre .2) (rw (l .inv .2) at so-far)
+          (ap (λ (m : ℕ). getD (s .args .shades .now) (l .b % m) 0) (one-shifted (s .args .d) (s .pre .4))) (behind .ensures))
+          (s .args .per) _ _ _ (omega (arith, mul-le-mul-right (s .args .per) (l .inv .0), l .inv .2)) (omega (arith, room, s .pre .0, l .inv .2, first .len))
+          (l .inv .3) (c .before .before .put2 .ensures),
+    )
 
 same-length : tie.Need-same-length Inv-loop μ-loop
 same-length c = search needs
 
 returns : tie.Need-returns Inv-loop μ-loop
-returns c = let s = c .before .before .before .before .before .before .before .before in
+returns c =
+    let s = c .before .before .before .before .before .before .before .before in
     let l = c .before .loop in
-    let first = first-byte (s .args .shades .now) (s .args .per) (s .args .d) _ _ (s .pre .2) (omega (arith, s .pre .0)) (c .before .before .before .before .put .ensures) in
+    let put = c .before .before .before .before .put in
+    let first = first-byte (s .args .shades .now) (s .args .per) (s .args .d) _ _ (s .pre .2) (omega (arith, s .pre .0)) (put .ensures) in
     let e : l .b ≡ 256 = omega (arith, l .inv .1) in
-    let k : l .k ≡ 256 * s .args .per = l .inv .2 ∙ ap (λ (n : ℕ). n * s .args .per) e in paints-painted (s .pre .0) (paint-next (omega arith) (omega (arith, s .pre .1)) first (rw k at (l .inv .3)))
+    let k : l .k ≡ 256 * s .args .per = l .inv .2 ∙ ap (λ (n : ℕ). n * s .args .per) e in
+    paints-painted (s .pre .0) (paint-next (omega arith) (omega (arith, s .pre .1)) first (rw k at (l .inv .3)))
 
 pub all-spec : {M : Type 1} → statement M
 all-spec =

@@ -1,3 +1,4 @@
+-- A cell and those behind it: after each turn the first j places hold what they should, the rest the first cell.
 use Rattle.buffers.proofs.Paints.{Paints, paint-none, paint-more, paints-painted}
 use mathlib.Core.Path.{_≡_, refl}
 use Prim.Native.Nat.{ℕ, _+_, _-_, _≤_}
@@ -41,13 +42,19 @@ loop-less : tie.Need-loop-less Inv-loop μ-loop
 loop-less c = search needs
 
 loop-again : tie.Need-loop-again Inv-loop μ-loop
-loop-again c = let s = c .before .before .before in
-    (omega arith, omega arith, paint-more _ (omega arith) (omega (arith, length-replicate {A = ℕ} 8 (s .args .first), s .pre .1)) refl (c .before .before .loop .inv .2))
+loop-again c =
+    let s = c .before .before .before in (
+      omega arith,
+      omega arith,
+      paint-more _ (omega arith) (omega (arith, length-replicate {A = ℕ} 8 (s .args .first), s .pre .1)) refl (c .before .before .loop .inv .2),
+    )
 
 returns : tie.Need-returns Inv-loop μ-loop
-returns c = let s = c .before .before in
+returns c =
+    let s = c .before .before in
     let l = c .before .loop in
-    let e : l .j ≡ s .args .count = omega (arith, l .inv .1) in paints-painted (omega (arith, length-replicate {A = ℕ} 8 (s .args .first), s .pre .1)) (rw e at (l .inv .2))
+    let e : l .j ≡ s .args .count = omega (arith, l .inv .1) in
+    paints-painted (omega (arith, length-replicate {A = ℕ} 8 (s .args .first), s .pre .1)) (rw e at (l .inv .2))
 
 pub behind-spec : {M : Type 1} → statement M
 behind-spec =

@@ -1,3 +1,4 @@
+-- The table by depth: each depth's numbers are those of the rule, and a depth that is none of the others is 1.
 use native.Mathlib.Omega.{arith}
 use Rattle.frame.proofs.Words.{depth-one}
 use borrow.Author.Needs.{needs}
@@ -29,8 +30,11 @@ same-length-3 : tie.Need-same-length-3
 same-length-3 c = search needs
 
 returns-3 : tie.Need-returns-3
-returns-3 c = let s = c .before .before .before .before .before .before .before in
-    rw (depth-one (s .pre .1) (λ e. absurd (omega (arith, s .pre .2))) (c .before .before .before .before .before .if1 .left) (c .before .before .before .before .if2 .left)) (c .before .before .all3 .ensures)
+returns-3 c =
+    let s = c .before .before .before .before .before .before .before in
+    let if1 = c .before .before .before .before .before .if1 in
+    let if2 = c .before .before .before .before .if2 in
+    rw (depth-one (s .pre .1) (λ e. absurd (omega (arith, s .pre .2))) (if1 .left) (if2 .left)) (c .before .before .all3 .ensures)
 
 pub bytes-spec : {M : Type 1} → statement M
 bytes-spec =

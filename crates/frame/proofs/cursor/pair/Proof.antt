@@ -1,5 +1,6 @@
+-- Two bits of a cursor word: the shift and the remainder are the rule's own.
 use mathlib.Core.Path.{refl}
-use Rattle.frame.specs.Ink.{pairIn}
+use Rattle.frame.specs.inner.Ink.{pairIn}
 use borrow.Author.Needs.{needs}
 use Rattle.frame.proofs.cursor.pair.Statement.{statement}
 use Rattle.frame.proofs.cursor.pair.Tie as tie

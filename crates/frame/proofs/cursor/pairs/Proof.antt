@@ -1,7 +1,8 @@
+-- Pair after pair: after each turn those up to i stand over the cells, stored where they are not 00 and left out where they are.
 use native.Mathlib.Omega.{arith}
 use borrow.Author.Needs.{needs}
 use Rattle.frame.proofs.Pointer.{pair-small, pair-stored, pair-clear}
-use Rattle.frame.specs.Ink.{pairInk}
+use Rattle.frame.specs.inner.Ink.{pairInk}
 use Prim.Native.Nat.{_+_, _-_, _≤_}
 use mathlib.Core.Logic.{⊎-elim}
 use mathlib.Core.Path.{_≡_}
@@ -10,7 +11,8 @@ use Rattle.frame.proofs.cursor.pairs.Statement.{statement}
 use Rattle.frame.proofs.cursor.pairs.Tie as tie
 
 abbrev Inv-loop : tie.InvT-loop
-Inv-loop out₀ start low high pens cursor first i₀ out i = (low ≤ i) × (i ≤ high) × Paints 0 out₀ out (start + low) (start + i) (pairInk pens cursor first start out₀)
+Inv-loop out₀ start low high pens cursor first i₀ out i =
+    (low ≤ i) × (i ≤ high) × Paints 0 out₀ out (start + low) (start + i) (pairInk pens cursor first start out₀)
 
 abbrev μ-loop : tie.MeasureT-loop
 μ-loop out₀ start low high pens cursor first i₀ out i = high - i
@@ -22,10 +24,16 @@ pair-requires : tie.Need-pair-requires Inv-loop μ-loop
 pair-requires c κs = search needs
 
 mul-out : tie.Need-mul-out Inv-loop μ-loop
-mul-out c = omega (arith, c .before .pair .ensures, pair-small (c .before .before .before .before .before .before .args .cursor .now) (c .before .before .before .before .before .before .args .first) (c .before .before .before .loop .i))
+mul-out c =
+    let s = c .before .before .before .before .before .before in
+    let l = c .before .before .before .loop in
+    omega (arith, c .before .pair .ensures, pair-small (s .args .cursor .now) (s .args .first) (l .i))
 
 element-copy-out-out : tie.Need-element-copy-out-out Inv-loop μ-loop
-element-copy-out-out c = omega (arith, c .before .pair .ensures, pair-small (c .before .before .before .before .before .before .args .cursor .now) (c .before .before .before .before .before .before .args .first) (c .before .before .before .loop .i))
+element-copy-out-out c =
+    let s = c .before .before .before .before .before .before in
+    let l = c .before .before .before .loop in
+    omega (arith, c .before .pair .ensures, pair-small (s .args .cursor .now) (s .args .first) (l .i))
 
 add-out : tie.Need-add-out Inv-loop μ-loop
 add-out c = search needs

@@ -1,8 +1,9 @@
+-- A pixel's cell: the byte that has it is one of the word's four, and its cells lie in the table.
 use native.Mathlib.Omega.{arith}
 use mathlib.Core.Path.{refl}
 use borrow.Author.Needs.{needs}
 use Rattle.frame.proofs.Words.{in-word, in-table}
-use Rattle.frame.specs.Ink.{wordInk}
+use Rattle.frame.specs.inner.Ink.{wordInk}
 use Rattle.frame.proofs.decode.cell.Statement.{statement}
 use Rattle.frame.proofs.decode.cell.Tie as tie
 

@@ -1,6 +1,7 @@
+-- The lowest pixels of a word: after each turn the first i of them are read.
 use native.Mathlib.Omega.{arith}
 use borrow.Author.Needs.{needs}
-use Rattle.frame.specs.Ink.{wordInk}
+use Rattle.frame.specs.inner.Ink.{wordInk}
 use lib.ListN.{replicate, length-replicate}
 use Prim.Native.Nat.{ℕ, _-_, _≤_}
 use mathlib.Core.Path.{_≡_}

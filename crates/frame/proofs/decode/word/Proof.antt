@@ -1,7 +1,8 @@
+-- A word part by part: after each turn the pixels of the first j parts are painted, and they are the word's.
 use native.Mathlib.Omega.{arith}
 use borrow.Author.Needs.{needs}
 use Rattle.frame.proofs.Words.{per-few, part-bytes, part-fits, part-turn}
-use Rattle.frame.specs.Ink.{from, wordInk}
+use Rattle.frame.specs.inner.Ink.{from, wordInk}
 use Prim.Native.Nat.{ℕ, _+_, _*_, _-_, _≤_}
 use mathlib.Core.Path.{_≡_, ap, _∙_}
 use Rattle.buffers.proofs.Paints.{Paints, paint-none, paints-painted}
@@ -9,7 +10,8 @@ use Rattle.frame.proofs.decode.word.Statement.{statement}
 use Rattle.frame.proofs.decode.word.Tie as tie
 
 abbrev Inv-loop : tie.InvT-loop
-Inv-loop out₀ at w per bytes parts table count k₀ j₀ out k j = (j ≤ parts) × (k ≡ at + j * (bytes * per)) × Paints 0 out₀ out at k (from at (wordInk table w per))
+Inv-loop out₀ at w per bytes parts table count k₀ j₀ out k j =
+    (j ≤ parts) × (k ≡ at + j * (bytes * per)) × Paints 0 out₀ out at k (from at (wordInk table w per))
 
 abbrev μ-loop : tie.MeasureT-loop
 μ-loop out₀ at w per bytes parts table count k₀ j₀ out k j = parts - j
@@ -67,10 +69,12 @@ same-length : tie.Need-same-length Inv-loop μ-loop
 same-length c = search needs
 
 returns : tie.Need-returns Inv-loop μ-loop
-returns c = let s = c .before .before .before in
+returns c =
+    let s = c .before .before .before in
     let l = c .before .loop in
     let e : l .j ≡ s .args .parts = omega arith in
-    let k : l .k ≡ s .args .at + 4 * s .args .per = l .inv .1 ∙ ap (λ (n : ℕ). s .args .at + n * (s .args .bytes * s .args .per)) e ∙ omega (arith, ap (λ (n : ℕ). n * s .args .per) (s .pre .1 .four)) in
+    let k : l .k ≡ s .args .at + 4 * s .args .per =
+    l .inv .1 ∙ ap (λ (n : ℕ). s .args .at + n * (s .args .bytes * s .args .per)) e ∙ omega (arith, ap (λ (n : ℕ). n * s .args .per) (s .pre .1 .four)) in
     paints-painted (s .pre .0) (rw k at (l .inv .2))
 
 pub word-spec : {M : Type 1} → statement M

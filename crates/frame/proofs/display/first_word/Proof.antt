@@ -1,8 +1,7 @@
+-- The first word of a displayed raster: so many rasters of so many words stand before it, few enough for an index.
 use native.Mathlib.Omega.{arith}
-use Prim.Native.Nat.{_-_}
-use Rattle.frame.specs.Pixel.{firstWord}
-use Rattle.registers.proofs.Words.{raster-most}
-use Rattle.frame.proofs.RasterWords.{product-fits}
+use Rattle.cells.specs.Pixel.{firstWord}
+use Rattle.cells.proofs.RasterWords.{first-most}
 use borrow.Author.Needs.{needs}
 use Rattle.frame.proofs.display.first_word.Statement.{statement}
 use Rattle.frame.proofs.display.first_word.Tie as tie
@@ -17,7 +16,9 @@ raster-words-requires : tie.Need-raster-words-requires
 raster-words-requires c κs = search needs
 
 mul-result : tie.Need-mul-result
-mul-result c = omega (arith, product-fits (c .before .before .before .args .y .0 - c .before .before .before .args .s .vds .0) (c .raster-words .result) (omega arith) (rw (c .raster-words .ensures) (raster-most _ (c .before .before .before .pre .0))))
+mul-result c =
+    let s = c .before .before .before in
+    omega (arith, rw (← c .raster-words .ensures) at (first-most (s .args .s) (s .pre .0) (s .args .y .0) (omega arith)))
 
 returns : tie.Need-returns
 unfolding firstWord

@@ -1,5 +1,6 @@
+-- A displayed raster's words: as many as the rule says, few enough for an index.
 use native.Mathlib.Omega.{arith}
-use Rattle.frame.proofs.RasterWords.{bits-most}
+use Rattle.cells.proofs.RasterWords.{bits-most}
 use Rattle.registers.proofs.Words.{depth-most, raster-words}
 use borrow.Author.Needs.{needs}
 use Rattle.frame.proofs.display.raster_words.Statement.{statement}

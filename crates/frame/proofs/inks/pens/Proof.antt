@@ -1,4 +1,5 @@
-use Rattle.frame.specs.Ink.{pensOf}
+-- The four cells, each of a colour that the record holds.
+use Rattle.frame.specs.inner.Ink.{pensOf}
 use borrow.Author.Needs.{needs}
 use Rattle.frame.proofs.inks.pens.Statement.{statement}
 use Rattle.frame.proofs.inks.pens.Tie as tie
@@ -41,7 +42,9 @@ add-three c = search needs
 
 returns : tie.Need-returns
 unfolding pensOf
-returns c = simp (c .before .before .before .border .ensures, c .before .before .cursor-colour .ensures, c .before .cursor-colour2 .ensures, c .cursor-colour3 .ensures)
+returns c =
+    let border = c .before .before .before .border in
+    simp (border .ensures, c .before .before .cursor-colour .ensures, c .before .cursor-colour2 .ensures, c .cursor-colour3 .ensures)
 
 pub pens-spec : {M : Type 1} → statement M
 pens-spec =

@@ -1,3 +1,4 @@
+-- The table of bytes: at depth 8 the display cells themselves, else what is made of them.
 use native.Mathlib.Omega.{arith}
 use lib.Pow.{pow-mono}
 use Rattle.frame.proofs.Ready.{bytes-eight, bytes-right}
@@ -13,8 +14,10 @@ same-length : tie.Need-same-length
 same-length c = search needs
 
 returns : tie.Need-returns
-returns c = let s = c .before .before .before .before .before .before in
-    bytes-eight (s .args .g) (s .args .depth) _ _ (c .before .before .before .before .if1 .taken) (omega (arith, s .pre .0)) (c .before .before .shades .ensures)
+returns c =
+    let s = c .before .before .before .before .before .before in
+    let if1 = c .before .before .before .before .if1 in
+    bytes-eight (s .args .g) (s .args .depth) _ _ (if1 .taken) (omega (arith, s .pre .0)) (c .before .before .shades .ensures)
 
 slice-aggregate-shades : tie.Need-slice-aggregate-shades
 slice-aggregate-shades c = search needs
@@ -31,8 +34,12 @@ same-length-2 : tie.Need-same-length-2
 same-length-2 c = search needs
 
 returns-2 : tie.Need-returns-2
-returns-2 c = let s = c .before .before .before .before .before .before .before .before .before .before in
-    bytes-right (s .args .g) (s .args .depth) _ _ _ (s .pre .1) (depth-few (s .pre .1) (c .before .before .before .before .before .before .before .before .if1 .left)) (c .before .before .before .before .before .before .shades2 .ensures) (s .pre .0) (c .before .before .bytes .ensures)
+returns-2 c =
+    let s = c .before .before .before .before .before .before .before .before .before .before in
+    let if1 = c .before .before .before .before .before .before .before .before .if1 in
+    let shades2 = c .before .before .before .before .before .before .shades2 in
+    bytes-right (s .args .g) (s .args .depth) _ _ _ (s .pre .1) (depth-few (s .pre .1) (if1 .left)) (shades2 .ensures) (s .pre .0)
+    (c .before .before .bytes .ensures)
 
 pub ready-spec : {M : Type 1} → statement M
 ready-spec =

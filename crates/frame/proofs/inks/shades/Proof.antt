@@ -1,3 +1,4 @@
+-- Pixel after pixel: after each turn the first p places hold the display cells of the palette's entries, which are the rule's.
 use Prim.Native.Nat.{_-_, _%_, _^_, _≤_}
 use mathlib.Core.Path.{_≡_}
 use native.Mathlib.Omega.{arith}
@@ -5,7 +6,7 @@ use borrow.Author.Needs.{needs}
 use lib.ListN.{getD}
 use Rattle.buffers.proofs.Paints.{Paints, paint-none, paint-more, paint-as, paints-painted}
 use Rattle.colours.proofs.Bounds.{shown-below}
-use Rattle.frame.specs.Ink.{shade, entryShade}
+use Rattle.frame.specs.inner.Ink.{shade, entryShade}
 use Rattle.frame.proofs.Ready.{count-is, count-most, entry-shade, entry-shade-is}
 use Rattle.frame.proofs.inks.shades.Statement.{statement}
 use Rattle.frame.proofs.inks.shades.Tie as tie
@@ -49,41 +50,54 @@ add-list c =
     omega (arith, c .shown .ensures, shown-below (getD (c .before .before .before .entries .result) (p % 16) 0) d p)
 
 mul-list-2 : tie.Need-mul-list-2 Inv-loop μ-loop
-mul-list-2 c = let d = c .before .before .before .before .before .args .depth in
-    let few = c .before .before .before .before .before .pre .0 in
-    omega (arith, c .before .loop-test .taken, count-is d few, count-most d few, c .before .before .before .before .before .pre .1, c .before .before .loop .inv .1 .len)
+mul-list-2 c =
+    let s = c .before .before .before .before .before in
+    let d = s .args .depth in
+    let few = s .pre .0 in
+    omega (arith, c .before .loop-test .taken, count-is d few, count-most d few, s .pre .1, c .before .before .loop .inv .1 .len)
 
 slice-write-list : tie.Need-slice-write-list Inv-loop μ-loop
-slice-write-list c = let d = c .before .before .before .before .before .args .depth in
-    let few = c .before .before .before .before .before .pre .0 in
-    omega (arith, c .before .loop-test .taken, count-is d few, count-most d few, c .before .before .before .before .before .pre .1, c .before .before .loop .inv .1 .len)
+slice-write-list c =
+    let s = c .before .before .before .before .before in
+    let d = s .args .depth in
+    let few = s .pre .0 in
+    omega (arith, c .before .loop-test .taken, count-is d few, count-most d few, s .pre .1, c .before .before .loop .inv .1 .len)
 
 add-p : tie.Need-add-p Inv-loop μ-loop
-add-p c = let d = c .before .before .before .before .before .args .depth in
-    let few = c .before .before .before .before .before .pre .0 in
-    omega (arith, c .before .loop-test .taken, count-is d few, count-most d few, c .before .before .before .before .before .pre .1, c .before .before .loop .inv .1 .len)
+add-p c =
+    let s = c .before .before .before .before .before in
+    let d = s .args .depth in
+    let few = s .pre .0 in
+    omega (arith, c .before .loop-test .taken, count-is d few, count-most d few, s .pre .1, c .before .before .loop .inv .1 .len)
 
 loop-less : tie.Need-loop-less Inv-loop μ-loop
-loop-less c = let d = c .before .before .before .before .before .args .depth in
-    let few = c .before .before .before .before .before .pre .0 in
-    omega (arith, c .before .loop-test .taken, count-is d few, count-most d few, c .before .before .before .before .before .pre .1, c .before .before .loop .inv .1 .len)
+loop-less c =
+    let s = c .before .before .before .before .before in
+    let d = s .args .depth in
+    let few = s .pre .0 in
+    omega (arith, c .before .loop-test .taken, count-is d few, count-most d few, s .pre .1, c .before .before .loop .inv .1 .len)
 
 loop-again : tie.Need-loop-again Inv-loop μ-loop
-loop-again c = let d = c .before .before .before .before .before .args .depth in
-    let few = c .before .before .before .before .before .pre .0 in (
+loop-again c =
+    let s = c .before .before .before .before .before in
+    let d = s .args .depth in
+    let few = s .pre .0 in (
       omega (arith, c .before .loop-test .taken, count-is d few),
-      paint-more _ (omega arith) (omega (arith, c .before .loop-test .taken, count-is d few, c .before .before .before .before .before .pre .1)) (entry-shade-is _ _ _ _ (c .shown .ensures)) (c .before .before .loop .inv .1),
+      paint-more _ (omega arith) (omega (arith, c .before .loop-test .taken, count-is d few, s .pre .1)) (entry-shade-is _ _ _ _ (c .shown .ensures))
+          (c .before .before .loop .inv .1),
     )
 
 same-length : tie.Need-same-length Inv-loop μ-loop
 same-length c = search needs
 
 returns : tie.Need-returns Inv-loop μ-loop
-returns c = let s = c .before .before .before .before in
+returns c =
+    let s = c .before .before .before .before in
     let l = c .before .loop in
     let e : l .p ≡ 2 ^ s .args .depth = omega (arith, l .inv .0, c .loop-test .left, count-is (s .args .depth) (s .pre .0)) in
     paints-painted {d = 0} (s .pre .1)
-    (paint-as (shade (s .args .g) (s .args .depth)) (λ k a b. entry-shade (s .args .g) _ (s .args .depth) k (c .before .before .entries .ensures)) (rw e at (l .inv .1)))
+    (paint-as (shade (s .args .g) (s .args .depth)) (λ k a b. entry-shade (s .args .g) _ (s .args .depth) k (c .before .before .entries .ensures))
+    (rw e at (l .inv .1)))
 
 pub shades-spec : {M : Type 1} → statement M
 shades-spec =

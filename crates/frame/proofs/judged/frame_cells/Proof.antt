@@ -1,3 +1,4 @@
+-- N·V cells, as many as an index counts: both factors are small in an accepted setting.
 use native.Mathlib.Omega.{arith}
 use Rattle.frame.proofs.Calls.{cells-most}
 use borrow.Author.Needs.{needs}
@@ -11,7 +12,9 @@ cast-result : tie.Need-cast-result
 cast-result c = search needs
 
 mul-result : tie.Need-mul-result
-mul-result c = omega (arith, rw (← c .before .wide .ensures) at (cells-most (c .before .before .args .s) (c .before .before .pre)))
+mul-result c =
+    let s = c .before .before in
+    omega (arith, rw (← c .before .wide .ensures) at (cells-most (s .args .s) (s .pre)))
 
 returns : tie.Need-returns
 returns c = rw (c .before .wide .ensures)

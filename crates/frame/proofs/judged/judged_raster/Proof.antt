@@ -1,50 +1,51 @@
+-- A given picture has the raster, and room for it, or rows 12 and 13 refuse; else that one raster is painted.
+use Rattle.cells.proofs.Pictures.{given-picture}
 use Rattle.frame.proofs.Ready.{one-raster, raster-law}
-use Rattle.frame.proofs.Calls.{lent-by}
-use borrow.Author.Tests.{lt-ltb, le-ltb, le-leb, lt-leb}
+use Rattle.frame.proofs.Calls.{raster-past, raster-short, raster-painted}
 use native.Mathlib.Omega.{arith}
-use mathlib.Core.Path.{refl, sym, _∙_}
 use borrow.Author.Needs.{needs}
 use Rattle.frame.proofs.judged.judged_raster.Statement.{statement}
 use Rattle.frame.proofs.judged.judged_raster.Tie as tie
 
-words-wrong-requires : tie.Need-words-wrong-requires
-words-wrong-requires c κs = search needs
-
 returns : tie.Need-returns
-returns c = (simp (sym (c .before .words-wrong .ensures) ∙ c .if1 .taken), refl)
-
-returns-2 : tie.Need-returns-2
-returns-2 c = (simp (sym (c .before .before .before .before .words-wrong .ensures) ∙ c .before .before .before .if1 .left, le-leb _ _ (c .if2 .taken)), refl)
+returns c =
+    let s = c .before .before .before .before .before .before in
+    raster-past (s .args .g) _ _ _ _ (s .args .s) (s .pre) (c .if1 .taken)
 
 wide-requires : tie.Need-wide-requires
 wide-requires c κs = search needs
 
-returns-3 : tie.Need-returns-3
-returns-3 c = (simp (sym (c .before .before .before .before .before .before .words-wrong .ensures) ∙ c .before .before .before .before .before .if1 .left, lt-leb _ _ (c .before .before .if2 .left), lt-ltb _ _ (rw (c .before .wide .ensures) at (c .if3 .taken))), refl)
+returns-2 : tie.Need-returns-2
+returns-2 c =
+    let here = c .before .before in
+    let s = here .before .before .before .before .before .before in
+    raster-short (s .args .g) _ _ _ _ (s .args .s) (s .pre) (here .if1 .left) (rw (c .before .wide .ensures) at (c .if2 .taken))
 
-add-t17 : tie.Need-add-t17
-add-t17 c = search needs
+add-t15 : tie.Need-add-t15
+add-t15 c = search needs
 
 paint-requires : tie.Need-paint-requires
-paint-requires c κs = let s = c .before .before .before .before .before .before .before .before .before .before .before .before in
-    (rw (one-raster (s .args .s .n .0) (s .args .y .0)) (lent-by (s .pre) (rw (c .before .before .before .wide .ensures) at (c .before .before .if3 .left)) (sym (c .before .before .before .before .before .before .before .before .words-wrong .ensures) ∙ c .before .before .before .before .before .before .before .if1 .left)), omega arith)
+paint-requires c κs =
+    let test = c .before .before in
+    let s = test .before .before .before .before .before .before .before .before in
+    let picture = given-picture (s .args .g) _ _ (s .args .s) (s .pre) in (
+      record { picture = picture; room = rw (one-raster (s .args .s .n .0) (s .args .y .0), ← test .before .wide .ensures) (test .if2 .left) },
+      omega arith,
+    )
 
 same-length : tie.Need-same-length
 same-length c = search needs
 
-returns-4 : tie.Need-returns-4
-returns-4 c = (simp (sym (c .before .before .before .before .before .before .before .before .before .before .before .words-wrong .ensures) ∙ c .before .before .before .before .before .before .before .before .before .before .if1 .left, lt-leb _ _ (c .before .before .before .before .before .before .before .if2 .left), le-ltb _ _ (rw (c .before .before .before .before .before .before .wide .ensures) at (c .before .before .before .before .before .if3 .left))), raster-law _ _ _ _ _ _ _ (rw (c .before .before .before .before .before .before .wide .ensures) at (c .before .before .before .before .before .if3 .left)) (c .before .before .paint .ensures))
+returns-3 : tie.Need-returns-3
+returns-3 c =
+    let test = c .before .before .before .before .before in
+    let here = test .before .before in
+    let s = here .before .before .before .before .before .before in
+    let room = rw (test .before .wide .ensures) at (test .if2 .left) in
+    raster-painted (s .args .g) _ _ _ _ (s .args .s) (s .pre) (here .if1 .left) _ room
+    (raster-law _ _ _ _ _ _ _ room (c .before .before .paint .ensures))
 
 pub judged-raster-spec : {M : Type 1} → statement M
 judged-raster-spec =
     tie.close
-    (tie.spec
-    words-wrong-requires
-    returns
-    returns-2
-    wide-requires
-    returns-3
-    add-t17
-    paint-requires
-    same-length
-    returns-4)
+    (tie.spec returns wide-requires returns-2 add-t15 paint-requires same-length returns-3)

@@ -1,3 +1,4 @@
+-- Code 2 in vertical sync, else 0: the test is the rule's.
 use borrow.Author.Tests.{lt-ltb, le-ltb}
 use borrow.Author.Needs.{needs}
 use Rattle.frame.proofs.lines.blank.Statement.{statement}

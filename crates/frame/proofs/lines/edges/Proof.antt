@@ -1,7 +1,7 @@
 -- A raster's cells outside the display, filled from left to right: sync, blank, the border where the raster has one, blank.
 use Rattle.frame.proofs.Edges.{blank-line, bordered-line}
 use Rattle.frame.proofs.Stretches.{blank-most}
-use Rattle.frame.proofs.Regions.{within-true}
+use Rattle.cells.proofs.Regions.{within-true}
 use mathlib.Core.Path.{sym, _∙_}
 use native.Mathlib.Omega.{arith}
 use borrow.Author.Needs.{needs}

@@ -1,3 +1,4 @@
+-- A line made anew holds its raster's cells; one that is kept held them already.
 use Rattle.frame.proofs.Edges.{edged-line}
 use mathlib.Core.Path.{sym, _∙_}
 use borrow.Author.Needs.{needs}

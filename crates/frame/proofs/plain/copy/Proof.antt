@@ -1,6 +1,6 @@
 -- A stretch of a line copied: after each turn the raster holds the line's cells up to k, and nothing else has changed.
 use Rattle.frame.proofs.Stretches.{copy-more}
-use Rattle.frame.specs.Ink.{from, cellIn}
+use Rattle.frame.specs.inner.Ink.{from, cellIn}
 use Rattle.buffers.proofs.Paints.{Paints, paint-none, paints-painted}
 use mathlib.Core.Path.{_≡_}
 use Prim.Native.Nat.{_+_, _-_, _≤_}

@@ -1,6 +1,6 @@
 -- A raster with no cursor: its line, and where it is displayed the line's two ends with the display between them.
 use Rattle.frame.proofs.Stretches.{raster-kept, displayed-law, undisplayed-law}
-use Rattle.frame.proofs.Regions.{within-true}
+use Rattle.cells.proofs.Regions.{within-true}
 use mathlib.Core.Path.{sym, _∙_}
 use borrow.Author.Needs.{needs}
 use Rattle.frame.proofs.plain.plain.Statement.{statement}

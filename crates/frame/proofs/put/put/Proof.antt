@@ -1,7 +1,8 @@
+-- Cell after cell: after each turn those up to k are stored.
 use native.Mathlib.Omega.{arith}
 use borrow.Author.Needs.{needs}
 use Rattle.frame.proofs.Words.{cell-stored}
-use Rattle.frame.specs.Ink.{from, cellIn}
+use Rattle.frame.specs.inner.Ink.{from, cellIn}
 use Prim.Native.Nat.{_+_, _-_, _≤_}
 use mathlib.Core.Path.{_≡_}
 use Rattle.buffers.proofs.Paints.{Paints, paint-none, paint-more, paints-painted}

@@ -1,5 +1,6 @@
+-- Byte after byte: after each turn the first b cells stand in the table, moved up; none loses a bit.
 use Rattle.frame.proofs.QuadCells.{moved-stored}
-use Rattle.frame.specs.Ink.{from, movedInk}
+use Rattle.frame.specs.inner.Ink.{from, movedInk}
 use Rattle.buffers.proofs.Paints.{Paints, paint-none, paint-more, paints-painted}
 use mathlib.Core.Path.{_≡_}
 use Prim.Native.Nat.{_+_, _-_, _≤_}
@@ -46,10 +47,15 @@ loop-less : tie.Need-loop-less Inv-loop μ-loop
 loop-less c = search needs
 
 loop-again : tie.Need-loop-again Inv-loop μ-loop
-loop-again c = let s = c .before .before .before in
+loop-again c =
+    let s = c .before .before .before in
     let l = c .before .before .loop in
-    let n : s .args .at + l .b + 1 ≡ s .args .at + (l .b + 1) = omega arith in
-    (omega arith, rw n at (paint-more _ (omega arith) (omega (arith, s .pre .1)) (moved-stored _ (s .pre .0) (l .b) (s .args .bits) (s .args .at) (c .before .loop-test .taken) (s .pre .2)) (l .inv .1)))
+    let n : s .args .at + l .b + 1 ≡ s .args .at + (l .b + 1) = omega arith in (
+      omega arith,
+      rw n at
+          (paint-more _ (omega arith) (omega (arith, s .pre .1))
+          (moved-stored _ (s .pre .0) (l .b) (s .args .bits) (s .args .at) (c .before .loop-test .taken) (s .pre .2)) (l .inv .1)),
+    )
 
 same-length : tie.Need-same-length Inv-loop μ-loop
 same-length c = c .before .loop .inv .1 .len

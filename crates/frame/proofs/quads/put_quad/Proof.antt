@@ -1,3 +1,4 @@
+-- Four stores, one after another: each is its 16 bits of the sum.
 use Rattle.frame.proofs.QuadCells.{quad-put}
 use lib.ListN.{length-set}
 use native.Mathlib.Omega.{arith}

@@ -1,4 +1,5 @@
-use Rattle.frame.proofs.QuadCells.{lowest, place-1, place-2, place-3, cell-small, quad-cells}
+-- Four cells added: each stands in 16 bits of its own, so that the sum fits and each is read back.
+use Rattle.frame.proofs.QuadCells.{four-added, quad-cells}
 use native.Mathlib.Omega.{arith}
 use borrow.Author.Needs.{needs}
 use Rattle.frame.proofs.quads.quad.Statement.{statement}
@@ -50,20 +51,28 @@ element-copy-out-d : tie.Need-element-copy-out-d
 element-copy-out-d c = search needs
 
 add-result : tie.Need-add-result
-add-result c = let s = c .before .before .before .before in
-    record { fits = omega (arith, lowest (s .args .quads .now) (s .pre) (s .args .w), place-1 (s .args .quads .now) (s .pre) (s .args .w), place-2 (s .args .quads .now) (s .pre) (s .args .w), place-3 (s .args .quads .now) (s .pre) (s .args .w), cell-small (s .args .quads .now) (s .pre) (s .args .w) 0, cell-small (s .args .quads .now) (s .pre) (s .args .w) 1, cell-small (s .args .quads .now) (s .pre) (s .args .w) 2, cell-small (s .args .quads .now) (s .pre) (s .args .w) 3) }
+add-result c =
+    let s = c .before .before .before .before in
+    let f = four-added (s .args .quads .now) (s .pre) (s .args .w) in
+    record { fits = omega (arith, f .lowest, f .place-1, f .place-2, f .place-3, f .small-0, f .small-1, f .small-2, f .small-3) }
 
 add-result-2 : tie.Need-add-result-2
-add-result-2 c = let s = c .before .before .before .before in
-    record { fits = omega (arith, lowest (s .args .quads .now) (s .pre) (s .args .w), place-1 (s .args .quads .now) (s .pre) (s .args .w), place-2 (s .args .quads .now) (s .pre) (s .args .w), place-3 (s .args .quads .now) (s .pre) (s .args .w), cell-small (s .args .quads .now) (s .pre) (s .args .w) 0, cell-small (s .args .quads .now) (s .pre) (s .args .w) 1, cell-small (s .args .quads .now) (s .pre) (s .args .w) 2, cell-small (s .args .quads .now) (s .pre) (s .args .w) 3) }
+add-result-2 c =
+    let s = c .before .before .before .before in
+    let f = four-added (s .args .quads .now) (s .pre) (s .args .w) in
+    record { fits = omega (arith, f .lowest, f .place-1, f .place-2, f .place-3, f .small-0, f .small-1, f .small-2, f .small-3) }
 
 add-result-3 : tie.Need-add-result-3
-add-result-3 c = let s = c .before .before .before .before in
-    record { fits = omega (arith, lowest (s .args .quads .now) (s .pre) (s .args .w), place-1 (s .args .quads .now) (s .pre) (s .args .w), place-2 (s .args .quads .now) (s .pre) (s .args .w), place-3 (s .args .quads .now) (s .pre) (s .args .w), cell-small (s .args .quads .now) (s .pre) (s .args .w) 0, cell-small (s .args .quads .now) (s .pre) (s .args .w) 1, cell-small (s .args .quads .now) (s .pre) (s .args .w) 2, cell-small (s .args .quads .now) (s .pre) (s .args .w) 3) }
+add-result-3 c =
+    let s = c .before .before .before .before in
+    let f = four-added (s .args .quads .now) (s .pre) (s .args .w) in
+    record { fits = omega (arith, f .lowest, f .place-1, f .place-2, f .place-3, f .small-0, f .small-1, f .small-2, f .small-3) }
 
 returns : tie.Need-returns
-returns c = let s = c .before .before .before .before in
-    quad-cells (s .args .quads .now) (s .pre) (s .args .w) _ (omega (arith, lowest (s .args .quads .now) (s .pre) (s .args .w), place-1 (s .args .quads .now) (s .pre) (s .args .w), place-2 (s .args .quads .now) (s .pre) (s .args .w), place-3 (s .args .quads .now) (s .pre) (s .args .w)))
+returns c =
+    let s = c .before .before .before .before in
+    let f = four-added (s .args .quads .now) (s .pre) (s .args .w) in
+    quad-cells (s .args .quads .now) (s .pre) (s .args .w) _ (omega (arith, f .lowest, f .place-1, f .place-2, f .place-3))
 
 pub quad-spec : {M : Type 1} → statement M
 quad-spec =

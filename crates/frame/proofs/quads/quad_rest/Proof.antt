@@ -1,10 +1,11 @@
+-- Word after word from the first on: after each turn the cells of the words before q are painted.
 use Prim.Native.Nat.{_+_, _*_, _-_, _≤_}
 use mathlib.Core.Path.{_≡_}
 use native.Mathlib.Omega.{arith}
 use borrow.Author.Needs.{needs}
 use lib.ListN.{length}
 use Rattle.buffers.proofs.Paints.{Paints, paint-none, paints-painted}
-use Rattle.frame.specs.Ink.{from, wordsInk}
+use Rattle.frame.specs.inner.Ink.{from, wordsInk}
 use Rattle.frame.proofs.QuadCells.{quad-turn}
 use Rattle.frame.proofs.quads.quad_rest.Statement.{statement}
 use Rattle.frame.proofs.quads.quad_rest.Tie as tie
@@ -20,7 +21,9 @@ loop-holds : tie.Need-loop-holds Inv-loop μ-loop
 loop-holds c = (omega arith, c .before .before .pre .1, paint-none _ _)
 
 quad-word-requires : tie.Need-quad-word-requires Inv-loop μ-loop
-quad-word-requires c κs = (omega (arith, c .before .before .before .before .before .pre .0, c .before .before .loop .inv .2 .len, c .before .loop-test .taken), c .before .loop-test .taken, c .before .before .before .before .before .pre .2)
+quad-word-requires c κs =
+    let s = c .before .before .before .before .before in
+    (omega (arith, s .pre .0, c .before .before .loop .inv .2 .len, c .before .loop-test .taken), c .before .loop-test .taken, s .pre .2)
 
 add-q : tie.Need-add-q Inv-loop μ-loop
 add-q c = omega (arith, c .before .before .before .before .loop-test .taken)
@@ -29,9 +32,15 @@ loop-less : tie.Need-loop-less Inv-loop μ-loop
 loop-less c = omega (arith, c .before .before .before .before .loop-test .taken)
 
 loop-again : tie.Need-loop-again Inv-loop μ-loop
-loop-again c = let s = c .before .before .before .before .before .before .before .before in
+loop-again c =
+    let s = c .before .before .before .before .before .before .before .before in
     let l = c .before .before .before .before .before .loop in
-    (omega (arith, l .inv .0), omega (arith, c .before .before .before .before .loop-test .taken), quad-turn _ _ (s .args .at) (l .q) _ _ _ _ (l .q + 1) (omega arith) (omega (arith, l .inv .0)) (omega (arith, s .pre .0, c .before .before .before .before .loop-test .taken)) (l .inv .2) (c .before .before .quad-word .ensures))
+    let test = c .before .before .before .before .loop-test in (
+      omega (arith, l .inv .0),
+      omega (arith, test .taken),
+      quad-turn _ _ (s .args .at) (l .q) _ _ _ _ (l .q + 1) (omega arith) (omega (arith, l .inv .0)) (omega (arith, s .pre .0, test .taken)) (l .inv .2)
+          (c .before .before .quad-word .ensures),
+    )
 
 same-length : tie.Need-same-length Inv-loop μ-loop
 same-length c = search needs

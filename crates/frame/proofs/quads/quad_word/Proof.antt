@@ -1,3 +1,4 @@
+-- One word: its four cells, stored where the word stands in the list.
 use Rattle.frame.proofs.QuadCells.{quad-placed}
 use borrow.Author.Needs.{needs}
 use Rattle.frame.proofs.quads.quad_word.Statement.{statement}
@@ -25,8 +26,10 @@ same-length : tie.Need-same-length
 same-length c = search needs
 
 returns : tie.Need-returns
-returns c = let s = c .before .before .before .before .before .before .before .before in
-    quad-placed _ (s .args .video .now) (s .args .at) (s .args .q) _ _ _ (c .before .before .before .quad .ensures) (s .pre .0) (c .before .before .put-quad .ensures)
+returns c =
+    let s = c .before .before .before .before .before .before .before .before in
+    let quad = c .before .before .before .quad in
+    quad-placed _ (s .args .video .now) (s .args .at) (s .args .q) _ _ _ (quad .ensures) (s .pre .0) (c .before .before .put-quad .ensures)
 
 pub quad-word-spec : {M : Type 1} → statement M
 quad-word-spec =

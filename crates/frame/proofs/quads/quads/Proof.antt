@@ -1,3 +1,4 @@
+-- Depth 8 alone needs the table: it is made there, and nothing is asked of it elsewhere.
 use borrow.Author.Needs.{needs}
 use Rattle.frame.proofs.quads.quads.Statement.{statement}
 use Rattle.frame.proofs.quads.quads.Tie as tie

@@ -1,3 +1,4 @@
+-- A raster with its cursor: the cursor over plain cells is the rule.
 use Rattle.frame.proofs.Rasters.{row-law}
 use borrow.Author.Needs.{needs}
 use Rattle.frame.proofs.rows.row.Statement.{statement}
@@ -13,8 +14,11 @@ same-length : tie.Need-same-length
 same-length c = search needs
 
 returns : tie.Need-returns
-returns c = let s = c .before .before .before .before .before .before .before .before .before .before .before in
-    row-law (s .args .s) (s .pre .0 .accepted) _ _ _ _ _ _ _ _ _ _ (s .pre .0 .room) (s .pre .1) (c .before .before .before .before .before .before .plain .ensures) (c .before .before .cover .ensures)
+returns c =
+    let s = c .before .before .before .before .before .before .before .before .before .before .before in
+    let plain = c .before .before .before .before .before .before .plain in
+    row-law (s .args .s) (s .pre .0 .picture .accepted) _ _ _ _ _ _ _ _ _ _ (s .pre .0 .room) (s .pre .1) (plain .ensures)
+    (c .before .before .cover .ensures)
 
 pub row-spec : {M : Type 1} → statement M
 row-spec = tie.close (tie.spec plain-requires cover-requires same-length returns)

@@ -1,3 +1,4 @@
+-- The marks: bright pixels of the display without those that the cursor covers, which are no more than all.
 use Rattle.marks.proofs.Counted.{counted}
 use Rattle.marks.proofs.Tabled.{bright-most}
 use Rattle.marks.proofs.Masks.{bytes-most}
@@ -17,8 +18,9 @@ bright-bytes-requires c κs =
 
 in-words-requires : tie.Need-in-words-requires
 in-words-requires c κs =
-    let s = c .before .before .before .before .before .before in (
-      bytes-most _ _ (bright-most (s .args .g) (s .args .s .depth) (s .args .threshold) (c .before .before .before .bright-pixels .ensures)) (c .before .bright-bytes .ensures),
+    let s = c .before .before .before .before .before .before in
+    let bright-pixels = c .before .before .before .bright-pixels in (
+      bytes-most _ _ (bright-most (s .args .g) (s .args .s .depth) (s .args .threshold) (bright-pixels .ensures)) (c .before .bright-bytes .ensures),
       omega (arith, video-most (s .args .s) (s .pre .accepted), s .pre .video-words),
     )
 
@@ -28,21 +30,27 @@ covered-requires c κs = search needs
 sub-result : tie.Need-sub-result
 sub-result c =
     let s = c .before .before .before .before .before .before .before .before .before in
+    let bright-pixels = c .before .before .before .before .before .before .bright-pixels in
+    let bright-bytes = c .before .before .before .before .bright-bytes in
     omega (
       arith,
       c .covered .ensures,
       c .before .before .in-words .ensures,
-      counted (s .args .s) (s .pre .accepted) (s .args .g) (s .args .video .now) (s .args .cursor .now) (s .args .threshold) _ (c .before .before .before .before .before .before .bright-pixels .ensures) _ (c .before .before .before .before .bright-bytes .ensures) (s .pre .video-words),
+      counted (s .args .s) (s .pre .accepted) (s .args .g) (s .args .video .now) (s .args .cursor .now) (s .args .threshold) _ (bright-pixels .ensures) _
+          (bright-bytes .ensures) (s .pre .video-words),
     )
 
 returns : tie.Need-returns
 returns c =
     let s = c .before .before .before .before .before .before .before .before .before in
+    let bright-pixels = c .before .before .before .before .before .before .bright-pixels in
+    let bright-bytes = c .before .before .before .before .bright-bytes in
     omega (
       arith,
       c .covered .ensures,
       c .before .before .in-words .ensures,
-      counted (s .args .s) (s .pre .accepted) (s .args .g) (s .args .video .now) (s .args .cursor .now) (s .args .threshold) _ (c .before .before .before .before .before .before .bright-pixels .ensures) _ (c .before .before .before .before .bright-bytes .ensures) (s .pre .video-words),
+      counted (s .args .s) (s .pre .accepted) (s .args .g) (s .args .video .now) (s .args .cursor .now) (s .args .threshold) _ (bright-pixels .ensures) _
+          (bright-bytes .ensures) (s .pre .video-words),
     )
 
 pub count-spec : {M : Type 1} → statement M

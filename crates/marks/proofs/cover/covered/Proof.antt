@@ -1,7 +1,8 @@
+-- Cursor raster after cursor raster: after each turn the sum is that over the rasters below j.
 use Rattle.registers.proofs.Words.{cursor-most}
 use Rattle.marks.proofs.Covering.{covered-words}
 use Rattle.marks.proofs.Totals.{sum-more}
-use Rattle.marks.specs.Bright.{cursorRaster}
+use Rattle.marks.specs.inner.Bright.{cursorRaster}
 use Rattle.marks.specs.Count.{total}
 use lib.ListN.{length}
 use native.Mathlib.Omega.{arith}

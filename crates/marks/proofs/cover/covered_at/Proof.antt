@@ -1,5 +1,5 @@
 -- One position of a cursor raster: nothing where it is not displayed or its pair is 00, else what the table has for its pixel.
-use Rattle.marks.proofs.Covering.{cursor-out, cursor-clear, cursor-shown, pair-is, raster-small, raster-displayed, raster-covered}
+use Rattle.marks.proofs.Covering.{cursor-out, cursor-clear, cursor-shown, pair-is, raster-small, raster-displayed, raster-reached}
 use mathlib.Core.Path.{sym, _∙_}
 use native.Mathlib.Omega.{arith}
 use borrow.Author.Needs.{needs}
@@ -15,12 +15,12 @@ add-t9 c = search needs
 returns : tie.Need-returns
 returns c =
     let s = c .before .before .before .before .before .before in
-    (cursor-out _ _ _ _ (s .pre .0 .accepted) _ _ (λ d. omega (arith, d .ds-x, c .if1 .taken)), omega arith)
+    (cursor-out _ _ _ _ (s .pre .0 .accepted) _ _ (λ d. omega (arith, d .left, c .if1 .taken)), omega arith)
 
 returns-2 : tie.Need-returns-2
 returns-2 c =
     let s = c .before .before .before .before .before .before .before .before .before in
-    (cursor-out _ _ _ _ (s .pre .0 .accepted) _ _ (λ d. omega (arith, d .x-de, c .if2 .taken)), omega arith)
+    (cursor-out _ _ _ _ (s .pre .0 .accepted) _ _ (λ d. omega (arith, d .right, c .if2 .taken)), omega arith)
 
 pair-at-requires : tie.Need-pair-at-requires
 pair-at-requires c κs = search needs
@@ -52,12 +52,13 @@ returns-4 c =
     let test = c .before .before in
     let right = test .before .before in
     let left = right .before .before .before in
-    let s = left .before .before .before .before .before .before in (
-      c .shown-at .ensures .0
-          ∙ cursor-shown _ _ _ _ (s .pre .0 .accepted) _ _ (raster-displayed _ _ _ (s .pre .1) _ (left .if1 .left) (right .if2 .left))
-          (raster-covered _ _ _ (s .pre .1) _ (s .pre .0) (s .pre .2)
-          (λ e. test .if3 .left (test .before .pair-at .ensures ∙ sym (pair-is _ _ _ _) ∙ e))),
-      c .shown-at .ensures .1,
+    let s = left .before .before .before .before .before .before in
+    let here = raster-displayed _ _ _ (s .pre .1) _ (left .if1 .left) (right .if2 .left) in
+    let reached = raster-reached _ _ _ (s .pre .1) _ (s .pre .0) (s .pre .2) here in
+    let shown = c .shown-at .ensures in (
+      shown .0 ∙ cursor-shown _ _ _ _ (s .pre .0 .accepted) _ _ here reached
+          (λ e. test .if3 .left (test .before .pair-at .ensures ∙ sym (pair-is _ _ _ _) ∙ e)),
+      shown .1,
     )
 
 pub covered-at-spec : {M : Type 1} → statement M

@@ -1,7 +1,7 @@
 -- A cursor raster: nothing where it is not displayed; else after each turn the sum is that over the positions up to i.
 use Rattle.marks.proofs.Covering.{raster-out, raster-small}
 use Rattle.marks.proofs.Totals.{sum-more}
-use Rattle.marks.specs.Bright.{cursorBright, rasterBright, cursorRaster}
+use Rattle.marks.specs.inner.Bright.{cursorBright, rasterBright, cursorRaster}
 use Rattle.marks.specs.Count.{total}
 use native.Mathlib.Omega.{arith}
 use mathlib.Core.Path.{_≡_, refl}
@@ -29,12 +29,12 @@ add-t10 c =
 returns : tie.Need-returns Inv-loop μ-loop
 returns c =
     let s = c .before .before .before .before .before .before in
-    (raster-out _ _ _ _ (s .pre .0 .accepted) _ (λ x d. omega (arith, d .vds-y, c .if1 .taken)), omega arith)
+    (raster-out _ _ _ _ (s .pre .0 .accepted) _ (λ x d. omega (arith, d .above, c .if1 .taken)), omega arith)
 
 returns-2 : tie.Need-returns-2 Inv-loop μ-loop
 returns-2 c =
     let s = c .before .before .before .before .before .before .before .before .before in
-    (raster-out _ _ _ _ (s .pre .0 .accepted) _ (λ x d. omega (arith, d .y-vde, c .if2 .taken)), omega arith)
+    (raster-out _ _ _ _ (s .pre .0 .accepted) _ (λ x d. omega (arith, d .below, c .if2 .taken)), omega arith)
 
 loop-holds : tie.Need-loop-holds Inv-loop μ-loop
 unfolding total

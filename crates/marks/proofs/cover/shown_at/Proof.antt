@@ -1,5 +1,6 @@
+-- What the table has for a displayed position: its pixel stands in the words, and is below 256.
 use Rattle.marks.proofs.Covering.{position-small, pixel-room, pixel-entry}
-use Rattle.frame.specs.Pixel.{pixel}
+use Rattle.cells.specs.Pixel.{pixel}
 use Rattle.registers.proofs.Words.{depth-most}
 use lib.ListN.{getD}
 use mathlib.Core.Path.{_∙_, ap}
@@ -27,9 +28,10 @@ entry-requires c κs = rw (c .pixel-at .ensures) (pixel-entry _ _ _ (c .before .
 
 returns : tie.Need-returns
 returns c =
-    let s = c .before .before .before .before .before in (
-      c .entry .ensures .0
-          ∙ ap (λ p. getD (s .args .pixels .now) p 0) (c .before .pixel-at .ensures ∙ ap (pixel (s .args .video .now) (s .args .s .depth)) (c .before .before .before .place .ensures)),
+    let s = c .before .before .before .before .before in
+    let place = c .before .before .before .place in (
+      c .entry .ensures .0 ∙ ap (λ p. getD (s .args .pixels .now) p 0)
+          (c .before .pixel-at .ensures ∙ ap (pixel (s .args .video .now) (s .args .s .depth)) (place .ensures)),
       c .entry .ensures .1,
     )
 

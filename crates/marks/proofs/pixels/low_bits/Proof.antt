@@ -1,3 +1,4 @@
+-- The low d bits: a mask of d ones is a remainder.
 use Rattle.registers.proofs.Words.{depth-most}
 use Rattle.marks.proofs.Masks.{mask-least, low-bits, bits-below}
 use native.Mathlib.Omega.{arith}

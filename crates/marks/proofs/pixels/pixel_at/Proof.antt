@@ -1,6 +1,7 @@
+-- A logical pixel: its word is there, and the shift and the mask are the rule's.
 use Rattle.registers.proofs.Words.{depth-most}
 use Prim.Native.Nat.{_<_}
-use Rattle.frame.specs.Pixel.{pixel}
+use Rattle.cells.specs.Pixel.{pixel}
 use Rattle.buffers.proofs.Product.{product-below}
 use native.Mathlib.Omega.{arith}
 use borrow.Author.Needs.{needs}
@@ -8,7 +9,10 @@ use Rattle.marks.proofs.pixels.pixel_at.Statement.{statement}
 use Rattle.marks.proofs.pixels.pixel_at.Tie as tie
 
 mul-bit : tie.Need-mul-bit
-mul-bit c = let s = c .before in let small : s .args .d < 9 = omega (arith, depth-most (s .pre .0)) in omega (arith, product-below (s .args .i) (s .args .d) (s .pre .2) small)
+mul-bit c =
+    let s = c .before in
+    let small : s .args .d < 9 = omega (arith, depth-most (s .pre .0)) in
+    omega (arith, product-below (s .args .i) (s .args .d) (s .pre .2) small)
 
 mul-low-bits : tie.Need-mul-low-bits
 mul-low-bits c = search needs

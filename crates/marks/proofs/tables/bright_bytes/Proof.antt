@@ -1,7 +1,8 @@
+-- Byte after byte: after each turn the first k entries hold how many of a byte's pixels are bright.
 use Prim.Native.Nat.{_≤_, _-_}
 use mathlib.Core.Path.{_≡_, refl}
 use native.Mathlib.Omega.{arith}
-use Rattle.marks.specs.Bright.{Tabled, byteBright}
+use Rattle.marks.specs.inner.Bright.{Tabled, byteBright}
 use Rattle.marks.proofs.Tabled.{tabled-more}
 use Rattle.marks.proofs.tables.bright_bytes.Statement.{statement}
 use Rattle.marks.proofs.tables.bright_bytes.Tie as tie

@@ -1,10 +1,11 @@
+-- Pixel after pixel: after each turn the first k entries tell whether the pixel is bright.
 use Prim.Native.Nat.{_≤_, _-_, _%_}
 use mathlib.Core.Path.{refl, _∙_, ap}
 use native.Mathlib.Omega.{arith}
 use borrow.Author.Needs.{needs}
 use lib.ListN.{getD}
 use Rattle.colours.proofs.Sixteen.{entry-of}
-use Rattle.marks.specs.Bright.{Tabled, lit}
+use Rattle.marks.specs.inner.Bright.{Tabled, lit}
 use Rattle.marks.proofs.Tabled.{tabled-more}
 use Rattle.marks.proofs.tables.bright_pixels.Statement.{statement}
 use Rattle.marks.proofs.tables.bright_pixels.Tie as tie
@@ -51,7 +52,9 @@ returns c =
     let l = c .before .loop in
     record {
       len = l .inv .1 .len;
-      on = λ k m. l .inv .1 .on k (omega arith) ∙ ap (λ e. lit e (s .args .depth) (s .args .threshold) k) (entry-of (s .args .g) _ k (c .before .before .entries .ensures));
+      on = λ k m.
+          l .inv .1 .on k (omega arith)
+          ∙ ap (λ e. lit e (s .args .depth) (s .args .threshold) k) (entry-of (s .args .g) _ k (c .before .before .entries .ensures));
     }
 
 pub bright-pixels-spec : {M : Type 1} → statement M

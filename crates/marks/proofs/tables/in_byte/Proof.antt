@@ -1,3 +1,4 @@
+-- The pixels of a byte: after each turn the sum is that over the j lowest, and the rest holds the others.
 use native.Mathlib.Nat.{div-le-self}
 use Rattle.registers.proofs.Words.{depth-least, depth-most}
 use Rattle.marks.proofs.Masks.{bits-below, byte-start, byte-rest, byte-more, byte-most}
@@ -5,7 +6,7 @@ use Prim.Native.Nat.{_≤_, _-_, _*_, _/_, _^_}
 use mathlib.Core.Path.{_≡_, refl}
 use native.Mathlib.Omega.{arith}
 use Rattle.marks.specs.Count.{total}
-use Rattle.marks.specs.Bright.{fieldBright, byteBright}
+use Rattle.marks.specs.inner.Bright.{fieldBright, byteBright}
 use Rattle.marks.proofs.tables.in_byte.Statement.{statement}
 use Rattle.marks.proofs.tables.in_byte.Tie as tie
 

@@ -1,10 +1,11 @@
+-- Word after word from a place on: after each turn the sum is that over the first k of them.
 use Prim.Native.Nat.{_≤_, _-_, _*_}
 use mathlib.Core.Path.{_≡_, refl}
 use native.Mathlib.Omega.{arith}
 use borrow.Author.Needs.{needs}
 use lib.ListN.{length}
 use Rattle.marks.specs.Count.{total}
-use Rattle.marks.specs.Bright.{wordFrom}
+use Rattle.marks.specs.inner.Bright.{wordFrom}
 use Rattle.marks.proofs.Totals.{sum-more}
 use Rattle.marks.proofs.walk.in_rest.Statement.{statement}
 use Rattle.marks.proofs.walk.in_rest.Tie as tie

@@ -1,3 +1,4 @@
+-- Four entries added, each small enough.
 use mathlib.Core.Path.{refl}
 use native.Mathlib.Omega.{arith}
 use borrow.Author.Needs.{needs}

@@ -1,10 +1,11 @@
+-- Four sums, one for each word of four: together they are the sum over the words before k, and then over all.
 use Prim.Native.Nat.{_+_, _-_, _*_, _%_, _≤_}
 use mathlib.Core.Path.{_≡_, refl}
 use native.Mathlib.Omega.{arith}
 use borrow.Author.Needs.{needs}
 use lib.ListN.{length}
 use Rattle.marks.specs.Count.{total}
-use Rattle.marks.specs.Bright.{wordBrightAt}
+use Rattle.marks.specs.inner.Bright.{wordBrightAt}
 use Rattle.marks.proofs.Totals.{sums-more, parts-total}
 use Rattle.marks.proofs.walk.in_words.Statement.{statement}
 use Rattle.marks.proofs.walk.in_words.Tie as tie
@@ -48,7 +49,10 @@ in-word-requires-2 : tie.Need-in-word-requires-2 Inv-loop μ-loop
 in-word-requires-2 c κs = search needs
 
 add-b : tie.Need-add-b Inv-loop μ-loop
-add-b c = omega (arith, c .before .before .before .before .before .loop .inv .3, c .in-word2 .ensures .1, c .before .before .before .before .before .before .before .pre .1)
+add-b c =
+    let l = c .before .before .before .before .before .loop in
+    let s = c .before .before .before .before .before .before .before in
+    omega (arith, l .inv .3, c .in-word2 .ensures .1, s .pre .1)
 
 add-in-word-2 : tie.Need-add-in-word-2 Inv-loop μ-loop
 add-in-word-2 c = search needs
@@ -63,7 +67,10 @@ in-word-requires-3 : tie.Need-in-word-requires-3 Inv-loop μ-loop
 in-word-requires-3 c κs = search needs
 
 add-c : tie.Need-add-c Inv-loop μ-loop
-add-c c = omega (arith, c .before .before .before .before .before .before .before .loop .inv .3, c .in-word3 .ensures .1, c .before .before .before .before .before .before .before .before .before .pre .1)
+add-c c =
+    let l = c .before .before .before .before .before .before .before .loop in
+    let s = c .before .before .before .before .before .before .before .before .before in
+    omega (arith, l .inv .3, c .in-word3 .ensures .1, s .pre .1)
 
 add-in-word-3 : tie.Need-add-in-word-3 Inv-loop μ-loop
 add-in-word-3 c = search needs
@@ -78,7 +85,10 @@ in-word-requires-4 : tie.Need-in-word-requires-4 Inv-loop μ-loop
 in-word-requires-4 c κs = search needs
 
 add-d : tie.Need-add-d Inv-loop μ-loop
-add-d c = omega (arith, c .before .before .before .before .before .before .before .before .before .loop .inv .3, c .in-word4 .ensures .1, c .before .before .before .before .before .before .before .before .before .before .before .pre .1)
+add-d c =
+    let l = c .before .before .before .before .before .before .before .before .before .loop in
+    let s = c .before .before .before .before .before .before .before .before .before .before .before in
+    omega (arith, l .inv .3, c .in-word4 .ensures .1, s .pre .1)
 
 add-k : tie.Need-add-k Inv-loop μ-loop
 add-k c = search needs
@@ -88,12 +98,14 @@ loop-less c = omega arith
 
 loop-again : tie.Need-loop-again Inv-loop μ-loop
 loop-again c =
-    let l = c .before .before .before .before .before .before .before .before .before .loop in (
+    let l = c .before .before .before .before .before .before .before .before .before .loop in
+    let in-word = c .before .before .before .before .before .before .in-word in
+    let in-word2 = c .before .before .before .before .in-word2 in (
       omega arith,
       omega arith,
-      sums-more (l .a) (l .b) (l .c) (l .d) _ (l .k) (l .inv .2)
-          (c .before .before .before .before .before .before .in-word .ensures .0) (c .before .before .before .before .in-word2 .ensures .0) (c .before .before .in-word3 .ensures .0) (c .in-word4 .ensures .0),
-      omega (arith, l .inv .3, c .before .before .before .before .before .before .in-word .ensures .1, c .before .before .before .before .in-word2 .ensures .1, c .before .before .in-word3 .ensures .1, c .in-word4 .ensures .1),
+      sums-more (l .a) (l .b) (l .c) (l .d) _ (l .k) (l .inv .2) (in-word .ensures .0) (in-word2 .ensures .0) (c .before .before .in-word3 .ensures .0)
+          (c .in-word4 .ensures .0),
+      omega (arith, l .inv .3, in-word .ensures .1, in-word2 .ensures .1, c .before .before .in-word3 .ensures .1, c .in-word4 .ensures .1),
     )
 
 add-result : tie.Need-add-result Inv-loop μ-loop

@@ -1,3 +1,4 @@
+-- The setting checked: its refusal is the call's, and an accepted one is judged by the rows behind it.
 use Rattle.stretch.proofs.Answers.{find-refused, find-given, find-accepted}
 use borrow.Author.Needs.{needs}
 use Rattle.stretch.proofs.found.find.Statement.{statement}
@@ -13,7 +14,10 @@ enum-known-s : tie.Need-enum-known-s
 enum-known-s c = search needs
 
 judge-requires : tie.Need-judge-requires
-judge-requires c κs = let s = c .before .before .before .before .before in find-accepted (s .args .g) (s .args .video .now) (s .args .y .0) _ (c .before .before .before .check .ensures) (c .before .s .given .1)
+judge-requires c κs =
+    let given = c .before in
+    let s = given .before .before .before .before in
+    find-accepted (s .args .g) (s .args .video .now) (s .args .y .0) _ (given .before .before .check .ensures) (given .s .given .1)
 
 returns : tie.Need-returns
 returns c = find-refused _ _ _ _ (c .before .before .before .check .ensures) (c .before .why .given .1)

@@ -1,5 +1,7 @@
 -- A displayed raster's words: those of the rasters before it are passed over; no words where it lies before or behind the display.
-use Rattle.stretch.proofs.Stretches.{stretch-none, stretch-at, width-small, start-small}
+use Rattle.stretch.proofs.Stretches.{stretch-none, stretch-at}
+use Rattle.cells.specs.Pixel.{firstWord}
+use Rattle.cells.proofs.RasterWords.{bits-most, first-most}
 use Rattle.registers.proofs.Words.{depth-most, raster-words}
 use mathlib.Core.Path.{sym}
 use native.Mathlib.Omega.{arith}
@@ -27,7 +29,7 @@ cast-w-2 c =
 mul-w : tie.Need-mul-w
 mul-w c =
     let s = c .before .before .before .before .before .before .before .before in
-    omega (arith, width-small _ (s .args .y .0) (s .pre))
+    omega (arith, bits-most _ (s .pre))
 
 cast-t8 : tie.Need-cast-t8
 cast-t8 c = search needs
@@ -36,9 +38,10 @@ mul-t7 : tie.Need-mul-t7
 mul-t7 c =
     let below = c .before .before .before .before in
     let s = below .before .before .before .before .before .before in
-    omega (arith, rw (raster-words (s .args .s)) at (start-small (s .args .s) _ (s .pre) (below .if2 .left)))
+    omega (arith, rw (raster-words (s .args .s)) at (first-most (s .args .s) (s .pre) (s .args .y .0) (omega arith)))
 
 returns-3 : tie.Need-returns-3
+unfolding firstWord
 returns-3 c =
     let below = c .before .before .before .before in
     let above = below .before .before .before in

@@ -1,17 +1,18 @@
 -- Where a logical pixel stands in the words and in their bytes, and that a part of the words holds the same pixels. Over any depth d.
 use Prim.Native.Nat.{ℕ, _+_, _*_, _-_, _/_, _%_, _^_, _<_, _≤_}
 use mathlib.Core.List.{List}
-use mathlib.Core.Logic.{⊎-elim}
+use mathlib.Core.Logic.{⊎-elim, inl, inr}
 use mathlib.Core.Path.{_≡_, sym, ap, _∙_}
-use native.Mathlib.Nat.{mod-lt, div-add-mod', mul-le-mul-right, mul-add-div-right, mul-add-mod-self-right}
+use native.Mathlib.Nat.{mod-lt, div-add-mod', mul-zero, mul-le-mul-right, mul-add-div-right, mul-add-mod-self-right}
 use native.Mathlib.Omega.{arith}
 use lib.ListN.{getD, take, drop}
 use lib.Pow.{pow-pos, field, mod-mod-pow, shr-shr}
 use lib.Seq.{getD-take, getD-drop}
 use Rattle.buffers.specs.Words.{byteOf}
+use Rattle.buffers.proofs.Split.{lt-or-le}
 use Rattle.registers.proofs.Accepted.{Depth}
 use Rattle.registers.proofs.Words.{depth-least}
-use Rattle.frame.specs.Pixel.{pixel}
+use Rattle.cells.specs.Pixel.{pixel}
 
 -- 8/d pixels of d bits fill a byte.
 pub fills-byte : {d : ℕ} → Depth d → 8 / d * d ≡ 8
@@ -79,3 +80,18 @@ byte-part ws start m k h =
     let low : (start * 4 + k) % 4 ≡ k % 4 = omega arith in
     let here : k / 4 < m = omega arith in
     rw (at, low, getD-take m (drop start ws) (k / 4) 0 here, getD-drop)
+
+fill-positive : (n d : ℕ) → n * d ≡ 32 → 0 < d
+fill-positive n d e =
+    elim (lt-or-le 0 d) [
+      | inl h ↦ h
+      | inr h ↦
+          let z : d ≡ 0 = omega arith in
+          let y : n * d ≡ 0 = rw z (mul-zero n) in
+          omega arith
+    ]
+
+-- Pixel x of word q, where n pixels of d bits fill a word.
+pub pixel-field : (ws : List ℕ) (d n q x : ℕ) → n * d ≡ 32 → x < n → pixel ws d (q * n + x) ≡ getD ws q 0 / 2 ^ (x * d) % 2 ^ d
+pixel-field ws d n q x e h =
+    pixel-in ws d (q * n + x) q (x * d) (omega (arith, ap (λ (k : ℕ). q * k) e)) (omega (arith, mul-le-mul-right d h, fill-positive n d e))

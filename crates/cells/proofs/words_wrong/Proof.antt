@@ -1,6 +1,7 @@
+-- Both counts are tested as the rule says: each call tells how many words the setting needs.
 use borrow.Author.Needs.{needs}
-use Rattle.frame.proofs.words_wrong.Statement.{statement}
-use Rattle.frame.proofs.words_wrong.Tie as tie
+use Rattle.cells.proofs.words_wrong.Statement.{statement}
+use Rattle.cells.proofs.words_wrong.Tie as tie
 
 video-words-requires : tie.Need-video-words-requires
 video-words-requires c κs = search needs

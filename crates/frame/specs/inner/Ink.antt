@@ -1,6 +1,6 @@
--- The cell rule over cells made ready, as the painters hold them. `pens` are the cells of the colours at 40H to 4CH: the
--- border's, then the cursor's three. `shades` has the display cell of each logical pixel, and `table` those of all pixels of
--- each byte: `per` of them, 8/d, from place `per` times the byte on.
+-- The cell rule over cells made ready, as the painters hold them among themselves; no public promise reaches this. `pens` are the
+-- cells of the colours at 40H to 4CH: the border's, then the cursor's three. `shades` has the display cell of each logical pixel,
+-- and `table` those of all pixels of each byte: `per` of them, 8/d, from place `per` times the byte on.
 use Prim.Native.Nat.{ℕ, _+_, _*_, _-_, _/_, _%_, _^_}
 use mathlib.Core.List.{List, [], _∷_}
 use lib.ListN.{getD}
@@ -11,8 +11,8 @@ use Rattle.registers.specs.Colours.{borderOf, cursorOf}
 use Rattle.registers.specs.declared.record.Registers.{Registers}
 use Rattle.registers.specs.declared.setting.Setting.{Setting}
 use Rattle.colours.specs.Colour.{shownOf, colourOf}
-use Rattle.frame.specs.Pixel.{position, cursorPair}
-use Rattle.frame.specs.Cell.{inDisplay, inBorder, plainCode, covered, cell}
+use Rattle.cells.specs.Pixel.{position, cursorPair}
+use Rattle.cells.specs.Cell.{inDisplay, inBorder, plainCode, covered, cell}
 
 -- A rule over the places of a stretch, moved to where that stretch starts.
 unfoldable pub from : ℕ → (ℕ → ℕ) → ℕ → ℕ

@@ -9,7 +9,7 @@ use Rattle.registers.specs.Colours.{borderOf, cursorOf}
 use Rattle.registers.specs.declared.record.Registers.{Registers}
 use Rattle.registers.specs.declared.setting.Setting.{Setting}
 use Rattle.colours.specs.Colour.{colourOf}
-use Rattle.frame.specs.Pixel.{logical, cursorPair}
+use Rattle.cells.specs.Pixel.{logical, cursorPair}
 
 abbrev pub within : ℕ → ℕ → ℕ → Bool
 within from to k = leb from k && ltb k to

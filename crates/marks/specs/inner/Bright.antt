@@ -1,4 +1,4 @@
--- What the functions inside count: bright pixels by a table, and those of them that the cursor covers.
+-- What the functions count among themselves: bright pixels by a table, and those of them that the cursor covers. No public promise reaches this.
 use Prim.Native.Nat.{ℕ, _+_, _*_, _-_, _/_, _%_, _^_, _<_, _≤_}
 use mathlib.Core.Bool.{_&&_}
 use mathlib.Core.List.{List}
@@ -9,12 +9,10 @@ use Rattle.buffers.specs.Pick.{pick}
 use Rattle.registers.specs.declared.record.Registers.{Registers}
 use Rattle.registers.specs.declared.setting.Setting.{Setting}
 use Rattle.registers.specs.Colours.{paletteOf}
-use Rattle.registers.specs.Setting.{videoWords, cursorWords}
-use Rattle.registers.proofs.Accepted.{Accepted}
 use Rattle.colours.specs.Colour.{shownOf}
 use Rattle.colours.specs.Grey.{greyOf}
-use Rattle.frame.specs.Pixel.{pixel, logical}
-use Rattle.frame.specs.Cell.{plainCode, covered}
+use Rattle.cells.specs.Pixel.{pixel, logical}
+use Rattle.cells.specs.Cell.{plainCode, covered}
 use Rattle.marks.specs.Count.{total, bit}
 
 -- A pixel is bright if the grey that its entry shows is at or above the threshold.
@@ -75,12 +73,6 @@ cursorRaster s video cursor pixels j = rasterBright s video cursor pixels (s .vc
 -- All that the cursor covers, where it is on.
 unfoldable pub coveredAll : Setting → List ℕ → List ℕ → List ℕ → ℕ
 coveredAll s video cursor pixels = pick (s .cursor) (total (cursorRaster s video cursor pixels) (s .vce .0 - s .vcs .0)) 0
-
--- An accepted setting, with as many words as it needs.
-pub record Ready (s : Setting) (video cursor : List ℕ) : Type 0 where
-  pub accepted : Accepted s
-  pub video-words : length video ≡ videoWords s
-  pub cursor-words : length cursor ≡ cursorWords s
 
 -- Cursor raster j is there, and displayed.
 pub record OnCursor (s : Setting) (cursor : List ℕ) (j : ℕ) : Type 0 where

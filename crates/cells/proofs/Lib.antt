@@ -1,0 +1,5 @@
+pub mod PixelPlaces
+pub mod RasterWords
+pub mod Regions
+pub mod Pictures
+pub mod Unique

@@ -1,0 +1,4 @@
+pub mod Pixel
+pub mod Cell
+pub mod Picture
+pub mod inner

@@ -1,0 +1,5 @@
+pub mod Ink
+pub mod Lent
+pub mod Lines
+pub mod Bytes
+pub mod Quads
