@@ -66,18 +66,18 @@ module _ (values written : List ℕ) where
 
   module _ (video cursor : List ℕ) where
     pub vom-frame-numbers : (places : ℕ)
-        → numbers (ofRecord values written λ g. frameTable g video cursor places) ≡ 13 ∷ 3 ∷ 4 ∷ 5 ∷ 6 ∷ 7 ∷ 8 ∷ 9 ∷ 11 ∷ 13 ∷ []
+        → numbers (ofRecord values written λ g. frameTable g video cursor places) ≡ 13 ∷ (settingNumbers ++ (11 ∷ 13 ∷ []))
     vom-frame-numbers places = refl
 
     pub vom-raster-numbers : (y places : ℕ)
-        → numbers (ofRecord values written λ g. rasterTable g video cursor y places) ≡ 13 ∷ 3 ∷ 4 ∷ 5 ∷ 6 ∷ 7 ∷ 8 ∷ 9 ∷ 11 ∷ 12 ∷ 13 ∷ []
+        → numbers (ofRecord values written λ g. rasterTable g video cursor y places) ≡ 13 ∷ (settingNumbers ++ (11 ∷ 12 ∷ 13 ∷ []))
     vom-raster-numbers y places = refl
 
-    pub vom-marks-numbers : numbers (ofRecord values written λ g. pictureTable g video cursor) ≡ 13 ∷ 3 ∷ 4 ∷ 5 ∷ 6 ∷ 7 ∷ 8 ∷ 9 ∷ 11 ∷ []
+    pub vom-marks-numbers : numbers (ofRecord values written λ g. pictureTable g video cursor) ≡ 13 ∷ (settingNumbers ++ (11 ∷ []))
     vom-marks-numbers = refl
 
   pub vom-raster-words-numbers : (video : List ℕ) (y places : ℕ)
-      → numbers ((ofRecord values written λ g. stretchTable g video y) ++ roomFor 2 places) ≡ 13 ∷ 3 ∷ 4 ∷ 5 ∷ 6 ∷ 7 ∷ 8 ∷ 9 ∷ 11 ∷ 12 ∷ 13 ∷ []
+      → numbers ((ofRecord values written λ g. stretchTable g video y) ++ roomFor 2 places) ≡ 13 ∷ (settingNumbers ++ (11 ∷ 12 ∷ 13 ∷ []))
   vom-raster-words-numbers video y places = refl
 
   pub vom-colour-numbers : numbers (ofRecord values written λ g. []) ≡ 13 ∷ []

@@ -26,7 +26,7 @@ use Rattle.cells.proofs.Pictures.{picture-told}
 use Rattle.runs.specs.Text.{refusedLine, pictureLine, lineFor, lineAt, firstLines, textOf}
 use Rattle.runs.specs.Strip.{pictureStrip, stripFor, stripAt, firstStrips, pictureOf}
 use Rattle.runs.specs.Wave.{waveTold, waveOf, refusalFor, waveRefusal, waveBlock, blockFor, blockAt}
-use Rattle.claims.specs.Calls.{Every, numbers, ByTable}
+use Rattle.claims.specs.Calls.{Every, numbers, settingNumbers, ByTable}
 use Rattle.claims.specs.Views as call
 use Rattle.claims.specs.Views.{PieceRun}
 use Rattle.claims.specs.Pieces.{Stored, StoredBy}
@@ -36,7 +36,7 @@ use Rattle.claims.proofs.Tables.{by-table, and-then-judged}
 pub wave-numbers : (file : List ℕ) → numbers (waveRows file) ≡ 15 ∷ 14 ∷ 1 ∷ 2 ∷ 3 ∷ 10 ∷ []
 wave-numbers file = refl
 
-pub sheet-numbers : (file : List ℕ) → numbers (sheetRows file) ≡ 15 ∷ 14 ∷ 1 ∷ 2 ∷ 3 ∷ 4 ∷ 5 ∷ 6 ∷ 7 ∷ 8 ∷ 9 ∷ 11 ∷ []
+pub sheet-numbers : (file : List ℕ) → numbers (sheetRows file) ≡ 15 ∷ 14 ∷ 1 ∷ 2 ∷ (settingNumbers ++ (11 ∷ []))
 sheet-numbers file = refl
 
 -- A table told before another.

@@ -2,7 +2,7 @@
 -- Each is said of every run that the call's own promise permits; refused, it leaves lent memory and records as they were.
 use Prim.Native.Nat.{ℕ, _*_, _%_}
 use mathlib.Core.Path.{_≡_, refl, sym, _∙_, ap}
-use mathlib.Core.List.{List, [], _∷_}
+use mathlib.Core.List.{List, [], _∷_, _++_}
 use lib.ListN.{length}
 use lib.Seq.{sets}
 use Rattle.buffers.specs.Painted.{painted}
@@ -46,17 +46,17 @@ load-numbers words = refl
 pub check-numbers : (g : Registers) → numbers (settingTable g) ≡ settingNumbers
 check-numbers g = refl
 
-pub frame-numbers : (g : Registers) (video cursor : List ℕ) (room : ℕ) → numbers (frameTable g video cursor room) ≡ 3 ∷ 4 ∷ 5 ∷ 6 ∷ 7 ∷ 8 ∷ 9 ∷ 11 ∷ 13 ∷ []
+pub frame-numbers : (g : Registers) (video cursor : List ℕ) (room : ℕ) → numbers (frameTable g video cursor room) ≡ settingNumbers ++ (11 ∷ 13 ∷ [])
 frame-numbers g video cursor room = refl
 
 pub raster-numbers : (g : Registers) (video cursor : List ℕ) (y room : ℕ)
-    → numbers (rasterTable g video cursor y room) ≡ 3 ∷ 4 ∷ 5 ∷ 6 ∷ 7 ∷ 8 ∷ 9 ∷ 11 ∷ 12 ∷ 13 ∷ []
+    → numbers (rasterTable g video cursor y room) ≡ settingNumbers ++ (11 ∷ 12 ∷ 13 ∷ [])
 raster-numbers g video cursor y room = refl
 
-pub marks-numbers : (g : Registers) (video cursor : List ℕ) → numbers (pictureTable g video cursor) ≡ 3 ∷ 4 ∷ 5 ∷ 6 ∷ 7 ∷ 8 ∷ 9 ∷ 11 ∷ []
+pub marks-numbers : (g : Registers) (video cursor : List ℕ) → numbers (pictureTable g video cursor) ≡ settingNumbers ++ (11 ∷ [])
 marks-numbers g video cursor = refl
 
-pub raster-words-numbers : (g : Registers) (video : List ℕ) (y : ℕ) → numbers (stretchTable g video y) ≡ 3 ∷ 4 ∷ 5 ∷ 6 ∷ 7 ∷ 8 ∷ 9 ∷ 11 ∷ 12 ∷ []
+pub raster-words-numbers : (g : Registers) (video : List ℕ) (y : ℕ) → numbers (stretchTable g video y) ≡ settingNumbers ++ (11 ∷ 12 ∷ [])
 raster-words-numbers g video y = refl
 
 pub check-sound-numbers : (g : Registers) → numbers (soundTable g) ≡ 3 ∷ 10 ∷ []
