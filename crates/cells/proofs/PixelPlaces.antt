@@ -10,7 +10,7 @@ use lib.Pow.{pow-pos, field, mod-mod-pow, shr-shr}
 use lib.Seq.{getD-take, getD-drop}
 use Rattle.buffers.specs.Words.{byteOf}
 use Rattle.buffers.proofs.Split.{lt-or-le}
-use Rattle.registers.proofs.Accepted.{Depth}
+use Rattle.registers.specs.inner.Accepted.{Depth}
 use Rattle.registers.proofs.Words.{depth-least}
 use Rattle.cells.specs.Pixel.{pixel}
 

@@ -10,7 +10,7 @@ use borrow.Author.Tests.{lt-ltb}
 use lib.ListN.{take, drop}
 use Rattle.registers.specs.Setting.{rasterWords, videoWords}
 use Rattle.registers.specs.declared.setting.Setting.{Setting}
-use Rattle.registers.proofs.Accepted.{Depth, Accepted}
+use Rattle.registers.specs.inner.Accepted.{Depth, Accepted}
 use Rattle.registers.proofs.Words.{depth-least, depth-most, raster-bits, raster-most, video-rasters}
 use Rattle.cells.specs.Pixel.{pixel, logical, firstWord}
 use Rattle.cells.proofs.PixelPlaces.{pixel-part}

@@ -16,7 +16,7 @@ use Rattle.registers.specs.Setting.{displayOn, borderOn}
 use Rattle.registers.specs.Colours.{cursorOf}
 use Rattle.registers.specs.declared.record.Registers.{Registers}
 use Rattle.registers.specs.declared.setting.Setting.{Setting}
-use Rattle.registers.proofs.Accepted.{Accepted}
+use Rattle.registers.specs.inner.Accepted.{Accepted}
 use Rattle.colours.proofs.Bounds.{colour-below, picked-below}
 use Rattle.cells.specs.Pixel.{logical, cursorPair}
 use Rattle.cells.specs.Cell.{within, inDisplay, inBorder, inCursor, plainCode, covered, code, colour, cell}

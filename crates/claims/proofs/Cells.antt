@@ -9,7 +9,7 @@ use borrow.Author.Tests.{eqb-true}
 use Rattle.buffers.proofs.Split.{true-or-false}
 use Rattle.registers.specs.declared.record.Registers.{Registers}
 use Rattle.registers.specs.declared.setting.Setting.{Setting}
-use Rattle.registers.proofs.Accepted.{Accepted}
+use Rattle.registers.specs.inner.Accepted.{Accepted}
 use Rattle.colours.specs.Colour.{colourOf}
 use Rattle.cells.specs.Pixel.{logical}
 use Rattle.cells.specs.Cell.{inDisplay, covered, code, cell}

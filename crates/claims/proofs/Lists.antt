@@ -12,7 +12,7 @@ use Rattle.buffers.proofs.Split.{lt-or-le}
 use Rattle.buffers.proofs.Words.{Below}
 use Rattle.registers.specs.Setting.{rasterWords, videoWords}
 use Rattle.registers.specs.declared.setting.Setting.{Setting}
-use Rattle.registers.proofs.Accepted.{Depth, Accepted}
+use Rattle.registers.specs.inner.Accepted.{Depth, Accepted}
 use Rattle.registers.proofs.Words.{depth-least, raster-bits, video-rasters}
 use Rattle.cells.specs.Pixel.{pixel, position}
 use Rattle.cells.specs.inner.Region.{InDisplay}

@@ -16,7 +16,8 @@ use Rattle.registers.specs.Setting.{settingOf, videoWords, cursorWords}
 use Rattle.registers.specs.Check.{checkTold}
 use Rattle.registers.specs.declared.record.Registers.{Registers}
 use Rattle.registers.specs.declared.setting.Setting.{Setting}
-use Rattle.registers.proofs.Accepted.{Accepted, accepted}
+use Rattle.registers.specs.inner.Accepted.{Accepted}
+use Rattle.registers.proofs.Accepted.{accepted}
 use Rattle.colours.specs.Colour.{colourOf}
 use Rattle.cells.specs.Pixel.{pixel, position, logical}
 use Rattle.cells.specs.Cell.{inDisplay, covered}

@@ -8,7 +8,8 @@ use Rattle.refusals.specs.Table.{Why, Told, given, refused, Passes, First}
 use Rattle.registers.specs.Setting.{settingOf}
 use Rattle.registers.specs.declared.record.Registers.{Registers}
 use Rattle.refusals.proofs.Tables.{passes-first, passes-given}
-use Rattle.registers.proofs.Accepted.{Accepted, accepted}
+use Rattle.registers.specs.inner.Accepted.{Accepted}
+use Rattle.registers.proofs.Accepted.{accepted}
 use Rattle.frame.specs.Pixel.{pixel, logical}
 use Rattle.cells.specs.Pixel.{pixel, logical}
 use Rattle.stretch.specs.Stretch.{isDisplayed, stretchOf, stretchTable, stretchTold, wordsTold, startTold}

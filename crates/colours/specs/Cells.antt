@@ -1,4 +1,4 @@
--- A cell is 16 bits: its code × 8192 and its colour of 13 bits.
+-- A cell: its code above the 13 bits of its colour.
 use Prim.Native.Nat.{ℕ, _+_, _*_, _/_, _^_}
 use Rattle.buffers.specs.Bits.{bits}
 

@@ -8,7 +8,7 @@ use Rattle.buffers.specs.Values.{valuesFrom}
 use Rattle.registers.specs.Colours.{paletteOf}
 use Rattle.registers.specs.declared.record.Registers.{Registers}
 
--- Depth 8: of the entry e bits 12, 10-8, 5, 4, 2-0 are shown; pixel bits 7, 6, 5, 4 become colour bits 11, 7, 6, 3.
+-- Depth 8: the upper four bits of the pixel p take the places of colour bits 11, 7, 6 and 3; the others are those of the entry e.
 abbrev pub mixed : ℕ → ℕ → ℕ
 mixed e p =
     bits 12 12 e * 2 ^ 12 + bits 7 7 p * 2 ^ 11 + bits 10 8 e * 2 ^ 8 + bits 6 6 p * 2 ^ 7 + bits 5 5 p * 2 ^ 6 + bits 5 4 e * 2 ^ 4

@@ -1,4 +1,4 @@
--- Grey, a house rule: floor(17·(R+G+B)/3), 0 to 255, unsigned; bits above 11 play no part.
+-- The grey of a colour: 17 times the mean of its three guns, rounded down.
 use Prim.Native.Nat.{ℕ, _+_, _*_, _/_}
 use Rattle.colours.specs.Guns.{redGun, greenGun, blueGun}
 

@@ -8,6 +8,6 @@ use Rattle.registers.specs.Control.{compositeField}
 abbrev pub composite : ℕ → Bool
 composite control = eqb (compositeField control) 1
 
--- Without composite, low exactly for codes 2 and 3. With it, the XNOR of the two active-low syncs: low for 1 and 2.
+-- Low in vertical sync alone, or under composite where just one of the two syncs runs.
 abbrev pub pinOf : ℕ → ℕ → ℕ
 pinOf code control = pick (composite control) (pick (eqb code 1 || eqb code 2) 0 1) (pick (eqb code 2 || eqb code 3) 0 1)

@@ -12,7 +12,7 @@ use Rattle.refusals.specs.Table.{Why, why, given, refused, Row, row, judged, an
 use Rattle.registers.specs.Setting.{settingOf}
 use Rattle.registers.specs.declared.record.Registers.{Registers}
 use Rattle.registers.specs.declared.setting.Setting.{Setting}
-use Rattle.registers.proofs.Accepted.{Accepted}
+use Rattle.registers.specs.inner.Accepted.{Accepted}
 use Rattle.cells.specs.Picture.{pictureTold}
 use Rattle.cells.proofs.Pictures.{picture-more, picture-setting}
 use Rattle.frame.specs.Frame.{cells, frameCell, frameTold, frameLeaves, rasterCell, rasterTold, rasterLeaves}

@@ -10,7 +10,7 @@ use Rattle.buffers.specs.Painted.{painted}
 use Rattle.buffers.proofs.Paints.{paint-as, paints-of, paints-painted}
 use Rattle.registers.specs.Setting.{rasterWords, videoWords}
 use Rattle.registers.specs.declared.setting.Setting.{Setting}
-use Rattle.registers.proofs.Accepted.{Accepted}
+use Rattle.registers.specs.inner.Accepted.{Accepted}
 use Rattle.cells.specs.Pixel.{firstWord}
 use Rattle.cells.proofs.PixelPlaces.{per-least, past-bytes, past-pixels, byte-part}
 use Rattle.cells.proofs.RasterWords.{four-bytes, whole-pixels, raster-room}

@@ -13,7 +13,7 @@ use Rattle.buffers.proofs.Tests.{or-neither}
 use Rattle.buffers.proofs.Split.{lt-or-le, true-or-false, is-false}
 use Rattle.buffers.proofs.Paints.{Paints, paint-as, paint-next, paints-of, paints-painted}
 use Rattle.registers.specs.declared.setting.Setting.{Setting}
-use Rattle.registers.proofs.Accepted.{Accepted}
+use Rattle.registers.specs.inner.Accepted.{Accepted}
 use Rattle.cells.specs.Cell.{within, inDisplay, inBorder}
 use Rattle.cells.specs.inner.Region.{InBorder}
 use Rattle.cells.proofs.Regions.{true-within, border-inside, inside-border, display-inside, inside-display, border-shown}

@@ -7,7 +7,7 @@ use borrow.Author.Tests.{lt-ltb, le-ltb}
 use lib.ListN.{getD}
 use Rattle.buffers.proofs.Split.{lt-or-le, is-false}
 use Rattle.registers.specs.declared.setting.Setting.{Setting}
-use Rattle.registers.proofs.Accepted.{Accepted}
+use Rattle.registers.specs.inner.Accepted.{Accepted}
 use Rattle.cells.specs.Cell.{inDisplay, inBorder, plainCode}
 use Rattle.cells.specs.inner.Region.{InDisplay, InBorder}
 use Rattle.cells.proofs.Regions.{border-inside, inside-border, display-inside, inside-display, display-bordered, border-shown}

@@ -18,7 +18,8 @@ use Rattle.cells.specs.Pixel.{cursorPair}
 use Rattle.cells.specs.Cell.{within, covered}
 use Rattle.cells.specs.inner.Region.{Reached}
 use Rattle.cells.proofs.Regions.{within-true, true-within, covered-reached, reached-covered}
-use Rattle.registers.proofs.Accepted.{Accepted, cursor-words}
+use Rattle.registers.specs.inner.Accepted.{Accepted}
+use Rattle.registers.proofs.Accepted.{cursor-words}
 use Rattle.frame.specs.inner.Lent.{RasterLent}
 use Rattle.frame.specs.inner.Ink.{pairIn, pairInk, coverInk}
 

@@ -1,4 +1,4 @@
--- The paper's small plate, raster 3: border cells 36608, display cells 40960 to 40967; the lent cell beyond the raster's is untouched.
+-- Raster 3 of the small plate, cell by cell, by computing: 36608 in its border, 40960 up to 40967 in its display; a lent cell past its end keeps what it held.
 use mathlib.Core.Path.{_≡_, refl}
 use mathlib.Core.List.{[], _∷_, _++_}
 use lib.ListN.{replicate}

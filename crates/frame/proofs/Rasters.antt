@@ -11,7 +11,7 @@ use Rattle.buffers.proofs.Paints.{Paints, paint-as, paint-next, paints-of, pain
 use Rattle.registers.specs.declared.setting.Setting.{Setting}
 use Rattle.cells.specs.Pixel.{cursorPair}
 use Rattle.cells.specs.Cell.{covered}
-use Rattle.registers.proofs.Accepted.{Accepted}
+use Rattle.registers.specs.inner.Accepted.{Accepted}
 use Rattle.frame.specs.inner.Lent.{Lent}
 use Rattle.frame.specs.inner.Lines.{Edged}
 use Rattle.frame.specs.inner.Ink.{from, plainInk, linedInk, ink, coverInk, rowsInk}

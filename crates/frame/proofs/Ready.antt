@@ -17,7 +17,7 @@ use Rattle.buffers.specs.Words.{byteOf}
 use Rattle.buffers.proofs.Paints.{paint-as, paints-of, paints-painted}
 use Rattle.buffers.proofs.Split.{true-or-false}
 use Rattle.registers.specs.Colours.{borderOf, cursorOf}
-use Rattle.registers.proofs.Accepted.{Depth}
+use Rattle.registers.specs.inner.Accepted.{Depth}
 use Rattle.registers.specs.declared.record.Registers.{Registers}
 use Rattle.registers.specs.declared.setting.Setting.{Setting}
 use Rattle.colours.specs.Colour.{shownOf, colourOf, entriesOf}

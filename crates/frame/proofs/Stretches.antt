@@ -12,7 +12,7 @@ use Rattle.buffers.specs.Painted.{painted}
 use Rattle.buffers.proofs.Split.{lt-or-le, is-false}
 use Rattle.buffers.proofs.Paints.{Paints, paint-as, paint-more, paint-next, paints-of, paints-painted, length-painted}
 use Rattle.registers.specs.declared.setting.Setting.{Setting}
-use Rattle.registers.proofs.Accepted.{Accepted}
+use Rattle.registers.specs.inner.Accepted.{Accepted}
 use Rattle.cells.specs.Cell.{within, inDisplay}
 use Rattle.cells.specs.inner.Region.{InDisplay}
 use Rattle.cells.proofs.Regions.{within-true, true-within, display-inside, inside-display}

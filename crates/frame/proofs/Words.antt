@@ -9,7 +9,7 @@ use lib.ListN.{length, getD, replicate, length-replicate}
 use lib.Pow.{shr-shr}
 use Rattle.buffers.specs.Painted.{painted}
 use Rattle.buffers.proofs.Paints.{Paints, paint-next, paint-as, paints-of}
-use Rattle.registers.proofs.Accepted.{Depth}
+use Rattle.registers.specs.inner.Accepted.{Depth}
 use Rattle.frame.specs.inner.Lent.{Parts}
 use Rattle.frame.specs.inner.Ink.{from, cellIn, wordInk, wordsInk}
 use Rattle.cells.proofs.PixelPlaces.{past-bytes, past-pixels}

@@ -4,7 +4,7 @@ ghost use mathlib.Core.Path.{_≡_};
 ghost use Prim.Native.Nat.{_+_, _*_, _-_, _/_, _≤_, _<_};
 ghost use lib.ListN.{length, getD, replicate};
 ghost use Rattle.buffers.specs.Painted.{painted};
-ghost use Rattle.registers.proofs.Accepted.{Depth};
+ghost use Rattle.registers.specs.inner.Accepted.{Depth};
 ghost use Rattle.frame.specs.inner.Ink.{bytesInk};
 
 // A cell, and behind it those from place `at` of the table on, `count` in all.

@@ -5,7 +5,7 @@ ghost use mathlib.Core.Path.{_≡_};
 ghost use Prim.Native.Nat.{_+_, _*_, _/_, _≤_, _<_};
 ghost use lib.ListN.{length, replicate};
 ghost use Rattle.buffers.specs.Painted.{painted};
-ghost use Rattle.registers.proofs.Accepted.{Depth};
+ghost use Rattle.registers.specs.inner.Accepted.{Depth};
 ghost use Rattle.frame.specs.inner.Lent.{Parts};
 ghost use Rattle.frame.specs.inner.Quads.{Tables};
 ghost use Rattle.frame.specs.inner.Ink.{from, wordInk, wordsInk};

@@ -8,7 +8,7 @@ ghost use Prim.Native.Nat.{_+_, _≤_, _<_};
 ghost use Rattle.buffers.specs.Painted.{painted};
 ghost use Rattle.registers.specs.Setting.{rasterWords, videoWords};
 ghost use Rattle.cells.specs.Pixel.{firstWord};
-ghost use Rattle.registers.proofs.Accepted.{Accepted};
+ghost use Rattle.registers.specs.inner.Accepted.{Accepted};
 ghost use Rattle.frame.specs.inner.Lent.{RasterLent};
 ghost use Rattle.frame.specs.inner.Quads.{Tables};
 ghost use Rattle.frame.specs.inner.Ink.{from, displayInk};

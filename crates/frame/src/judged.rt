@@ -10,7 +10,7 @@ ghost use mathlib.Core.Path.{_≡_};
 ghost use lib.ListN.{length};
 ghost use Rattle.refusals.specs.Table.{given};
 ghost use Rattle.refusals.specs.Refusals.{answerSays};
-ghost use Rattle.registers.proofs.Accepted.{Accepted};
+ghost use Rattle.registers.specs.inner.Accepted.{Accepted};
 ghost use Rattle.cells.specs.Picture.{pictureTold};
 ghost use Rattle.frame.specs.Frame.{cells, frameTold, frameLeaves, rasterTold, rasterLeaves};
 

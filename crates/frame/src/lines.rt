@@ -9,7 +9,7 @@ ghost use mathlib.Core.Path.{_≡_};
 ghost use Prim.Native.Nat.{_≤_};
 ghost use lib.ListN.{length};
 ghost use Rattle.buffers.specs.Painted.{painted};
-ghost use Rattle.registers.proofs.Accepted.{Accepted};
+ghost use Rattle.registers.specs.inner.Accepted.{Accepted};
 ghost use Rattle.frame.specs.inner.Ink.{blankOf, edgeInk};
 ghost use Rattle.frame.specs.inner.Lines.{anew, Edged};
 

@@ -6,7 +6,7 @@ use native.Mathlib.Nat.{add-mul, mul-assoc, mod-lt, div-one, mul-le-mul-right}
 use native.Mathlib.Omega.{arith}
 use lib.ListN.{getD}
 use lib.Pow.{shr-shr}
-use Rattle.registers.proofs.Accepted.{Depth}
+use Rattle.registers.specs.inner.Accepted.{Depth}
 use Rattle.registers.proofs.Words.{depth-least}
 use Rattle.cells.proofs.PixelPlaces.{fills-byte, low-field, pixel-in}
 use Rattle.marks.specs.Count.{total}

@@ -10,7 +10,8 @@ use Rattle.buffers.specs.Pick.{pick}
 use Rattle.registers.specs.Setting.{displayOn, videoWords}
 use Rattle.registers.specs.declared.record.Registers.{Registers}
 use Rattle.registers.specs.declared.setting.Setting.{Setting}
-use Rattle.registers.proofs.Accepted.{Accepted, video-off}
+use Rattle.registers.specs.inner.Accepted.{Accepted}
+use Rattle.registers.proofs.Accepted.{video-off}
 use Rattle.registers.proofs.Words.{video-rasters}
 use Rattle.cells.proofs.RasterWords.{four-bytes, whole-pixels}
 use Rattle.marks.specs.Count.{total}

@@ -16,7 +16,8 @@ use Rattle.buffers.proofs.Split.{is-false}
 use Rattle.buffers.proofs.Product.{product-below}
 use Rattle.registers.specs.Setting.{rasterWords, videoWords, cursorWords}
 use Rattle.registers.specs.declared.setting.Setting.{Setting}
-use Rattle.registers.proofs.Accepted.{Accepted, cursor-off, cursor-words}
+use Rattle.registers.specs.inner.Accepted.{Accepted}
+use Rattle.registers.proofs.Accepted.{cursor-off, cursor-words}
 use Rattle.registers.proofs.Words.{raster-bits, depth-least, depth-most, video-rasters, cursor-raster}
 use Rattle.cells.specs.Pixel.{pixel, position, logical, cursorPair}
 use Rattle.cells.specs.Cell.{inDisplay, plainCode, covered}

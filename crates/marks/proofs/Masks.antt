@@ -7,7 +7,7 @@ use native.Mathlib.Omega.{arith}
 use lib.Bits.{bitAnd, and-mask}
 use lib.ListN.{getD}
 use lib.Pow.{pow-pos, pow-mono, shl-exact, shr-shr}
-use Rattle.registers.proofs.Accepted.{Depth}
+use Rattle.registers.specs.inner.Accepted.{Depth}
 use Rattle.registers.proofs.Words.{depth-most}
 use Rattle.marks.specs.Count.{total}
 use Rattle.marks.specs.inner.Bright.{Tabled, AtMost, fieldBright, byteBright}

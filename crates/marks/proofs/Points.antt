@@ -12,7 +12,7 @@ use borrow.Author.Tests.{eqb-true}
 use Rattle.buffers.specs.Pick.{pick}
 use Rattle.registers.specs.declared.record.Registers.{Registers}
 use Rattle.registers.specs.declared.setting.Setting.{Setting}
-use Rattle.registers.proofs.Accepted.{Accepted}
+use Rattle.registers.specs.inner.Accepted.{Accepted}
 use Rattle.registers.proofs.Words.{depth-most}
 use Rattle.colours.specs.Colour.{colourOf}
 use Rattle.colours.specs.Grey.{greyOf}

@@ -12,7 +12,7 @@ use Rattle.buffers.proofs.Split.{is-false}
 use Rattle.registers.specs.Setting.{displayOn}
 use Rattle.registers.specs.declared.record.Registers.{Registers}
 use Rattle.registers.specs.declared.setting.Setting.{Setting}
-use Rattle.registers.proofs.Accepted.{Accepted}
+use Rattle.registers.specs.inner.Accepted.{Accepted}
 use Rattle.cells.specs.Cell.{inDisplay, plainCode, covered}
 use Rattle.frame.specs.Frame.{frameCell}
 use Rattle.cells.specs.inner.Region.{InDisplay, Reached}

@@ -1,5 +1,5 @@
 -- The mark count for a threshold: the number of code 5 cells of the frame whose grey is at or above it.
-use Prim.Native.Nat.{ℕ, _/_, _%_}
+use Prim.Native.Nat.{ℕ}
 use mathlib.Core.Bool.{Bool, _&&_}
 use mathlib.Core.List.{List}
 use lib.Dec.{leb, eqb}
@@ -9,15 +9,16 @@ use Rattle.registers.specs.Setting.{settingOf}
 use Rattle.registers.specs.declared.record.Registers.{Registers}
 use Rattle.registers.specs.declared.setting.Setting.{Setting}
 use Rattle.colours.specs.Grey.{greyOf}
+use Rattle.colours.specs.Cells.{cellCode, cellColour}
 use Rattle.cells.specs.Picture.{pictureTable}
 use Rattle.frame.specs.Frame.{cells, frameCell}
 use Rattle.marks.specs.Count.{countBelow}
 use Rattle.marks.specs.declared.answer.Marks.{Marks}
 use Rattle.marks.specs.declared.answer.Marks.the-variants.{Count, Refused}
 
--- A cell is its code × 8192 and its colour.
+-- A cell of code 5 whose grey is not below the threshold.
 abbrev pub isMark : ℕ → ℕ → Bool
-isMark threshold cell = eqb (cell / 8192) 5 && leb threshold (greyOf (cell % 8192))
+isMark threshold cell = eqb (cellCode cell) 5 && leb threshold (greyOf (cellColour cell))
 
 -- Whether the cell at place k of the frame is a mark.
 abbrev pub markAt : Registers → Setting → List ℕ → List ℕ → ℕ → ℕ → Bool

@@ -7,7 +7,7 @@ ghost use mathlib.Core.Path.{_≡_};
 ghost use Prim.Native.Nat.{_+_, _*_, _/_, _%_, _^_, _<_, _≤_};
 ghost use lib.ListN.{length, getD};
 ghost use Rattle.registers.specs.Setting.{videoWords};
-ghost use Rattle.registers.proofs.Accepted.{Accepted};
+ghost use Rattle.registers.specs.inner.Accepted.{Accepted};
 ghost use Rattle.cells.specs.Pixel.{position, logical};
 ghost use Rattle.cells.specs.inner.Region.{InDisplay};
 ghost use Rattle.cells.specs.inner.Known.{Picture};

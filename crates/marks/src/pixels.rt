@@ -2,7 +2,7 @@
 ghost use mathlib.Core.Path.{_≡_};
 ghost use Prim.Native.Nat.{_%_, _^_, _*_, _<_};
 ghost use lib.ListN.{length};
-ghost use Rattle.registers.proofs.Accepted.{Depth};
+ghost use Rattle.registers.specs.inner.Accepted.{Depth};
 ghost use Rattle.cells.specs.Pixel.{pixel};
 
 // The low d bits of x.

@@ -5,7 +5,7 @@ use colours::grey;
 use colours::shown;
 use registers::record::Registers;
 ghost use mathlib.Core.Path.{_≡_};
-ghost use Rattle.registers.proofs.Accepted.{Depth};
+ghost use Rattle.registers.specs.inner.Accepted.{Depth};
 ghost use Rattle.marks.specs.inner.Bright.{Tabled, AtMost, lit, bright, byteBright};
 
 // 1 if the grey that an entry shows for a pixel is at or above the threshold, else 0.

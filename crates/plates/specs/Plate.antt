@@ -1,4 +1,4 @@
--- The plate file: registers, video, cursor, sound, then a 16-byte trailer of four words that point back.
+-- The plate file: four sections of words one after another, and behind them the trailer that says where each begins.
 use Prim.Native.Nat.{ℕ, _+_, _*_, _-_}
 use mathlib.Core.Bool.{Bool, _&&_}
 use mathlib.Core.List.{List, [], _∷_, _++_}
@@ -10,7 +10,7 @@ use Rattle.plates.specs.declared.Sections.{Sections}
 abbrev pub mostBytes : ℕ
 mostBytes = 4194304
 
--- The trailer's words: distances in words from the trailer's start to the start of each section.
+-- The trailer's four words: how many words before it each section begins.
 abbrev pub rOf : List ℕ → ℕ
 rOf file = wordAt file (length file - 16)
 
@@ -27,7 +27,7 @@ sOf file = wordAt file (length file - 4)
 abbrev pub lengthRule : ℕ → Bool
 lengthRule n = leb 16 n && leb n mostBytes
 
--- R ≥ V ≥ C ≥ S and 4R+16 = length.
+-- No section begins before the one ahead of it, and the first begins the file.
 abbrev pub trailerRule : ℕ → ℕ → ℕ → ℕ → ℕ → Bool
 trailerRule n r v c s = leb v r && leb c v && leb s c && eqb (4 * r + 16) n
 

@@ -24,7 +24,7 @@ const MOST_WORDS: usize = 1_048_572;
 
 // Where the sections of a plate lie.
 pub struct Sections {
-    // the byte at which each section starts, and the trailer
+    // where each section starts and where the trailer does, in bytes
     pub registers: usize,
     pub video: usize,
     pub cursor: usize,
@@ -82,7 +82,7 @@ fn read_trailer(file: &[u8]) -> Reading
     Reading::Refused(Refusal::PlateFile)
 }
 
-// A file judged: the byte at which each section starts, and the trailer; or 14.
+// A file judged: where its sections and its trailer start, or 14.
 pub fn read(file: &[u8]) -> Reading
     ensures { λ r. ⌜ readSays r ≡ readTold (now (file .entry)) ⌝ }
 {

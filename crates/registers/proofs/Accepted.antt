@@ -12,7 +12,7 @@ use Rattle.registers.specs.Control.{depthChoice}
 use Rattle.registers.specs.Setting.{settingOf, displayOn, borderOn, videoWords, cursorWords}
 use Rattle.registers.specs.Check.{checkTold}
 use Rattle.registers.specs.Rules.{Displayed, Bordered, Vertical, EveryRule}
-pub use Rattle.registers.specs.inner.Accepted.{Depth, Accepted}
+use Rattle.registers.specs.inner.Accepted.{Depth, Accepted}
 use Rattle.registers.specs.declared.record.Registers.{Registers}
 use Rattle.registers.specs.declared.setting.Setting.{Setting}
 use Rattle.registers.proofs.Exactly.{every-rule, accepted-setting}

@@ -28,6 +28,6 @@ cursorStart g = record { 0 = bits 23 13 (valueAt g HCSR) + 6 }
 abbrev pub subPosition : Registers → ℕ
 subPosition g = bits 12 11 (valueAt g HCSR)
 
--- The cursor is on if VCSR and VCER are written and VCE > VCS.
+-- The cursor is on: both of its vertical registers were written, and it ends below its start.
 abbrev pub cursorOn : Registers → Bool
 cursorOn g = writtenAt g VCSR && writtenAt g VCER && ltb (rastersAt g VCSR .0) (rastersAt g VCER .0)

@@ -12,7 +12,7 @@ use Rattle.registers.specs.declared.record.Registers.{Registers}
 abbrev pub among : ℕ → ℕ → ℕ → Bool
 among first last slot = leb (at first) slot && leb slot (at last)
 
--- The six of each direction, border, entries in use; HCSR and cursor palette if the cursor is on.
+-- What a picture needs besides control; the cursor's own start and colours only where it is on.
 abbrev pub neededFor : ℕ → Bool → ℕ → Bool
 neededFor entries cursor slot =
     ltb slot entries || eqb slot (at BORDER) || among HCR HBER slot || among VCR VBER slot

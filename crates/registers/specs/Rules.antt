@@ -33,7 +33,7 @@ pub record Bordered (s : Setting) : Type 0 where
   pub vbs-vbe : s .vbs .0 < s .vbe .0
   pub vbe-v : s .vbe .0 ≤ s .v .0
 
--- VS ≤ V, and either the display's rule, or display off and one of these: border off, or the border's rule.
+-- Sync ends within the frame; an on display keeps its rule, else an on border keeps its own.
 abbrev pub Vertical : Setting → Type 0
 Vertical s = (s .vs .0 ≤ s .v .0) × (Displayed s ⊎ ((s .vde .0 ≤ s .vds .0) × ((s .vbe .0 ≤ s .vbs .0) ⊎ Bordered s)))
 

@@ -31,7 +31,7 @@ settingOf g =
       cursor = cursorOn g;
     }
 
--- Vertical display is on if VDE > VDS, border if VBE > VBS.
+-- The display is on where it ends below its start; so is the border.
 abbrev pub displayOn : Setting → Bool
 displayOn s = ltb (s .vds .0) (s .vde .0)
 
@@ -42,7 +42,7 @@ borderOn s = ltb (s .vbs .0) (s .vbe .0)
 unfoldable pub rasterWords : Setting → ℕ
 rasterWords s = (s .de .0 - s .ds .0) * s .depth / 32
 
--- A frame needs (DE-DS)·(VDE-VDS)·d/32 video words, 0 if display is off,
+-- The video words of a frame: d bits for every displayed position, none with the display off,
 unfoldable pub videoWords : Setting → ℕ
 videoWords s = pick (displayOn s) ((s .de .0 - s .ds .0) * (s .vde .0 - s .vds .0) * s .depth / 32) 0
 

@@ -1,4 +1,4 @@
-// The register record: each register's data and whether it was written, at the slot that is its address / 4.
+// The register record: for each slot (an address / 4) the data last stored there, and whether any was.
 use refusals::Answer;
 use refusals::Refusal;
 ghost use mathlib.Core.Path.{_≡_};

@@ -16,7 +16,7 @@ use Rattle.refusals.specs.declared.Refusal.{Refusal}
 use Rattle.registers.specs.declared.setting.Setting.{Setting}
 use Rattle.registers.specs.declared.check.Checked.the-variants as checked
 use Rattle.refusals.proofs.Tables.{never}
-use Rattle.registers.proofs.Accepted.{Accepted}
+use Rattle.registers.specs.inner.Accepted.{Accepted}
 use Rattle.cells.specs.Picture.{pictureTold}
 use Rattle.cells.proofs.Pictures.{given-picture}
 use Rattle.frame.specs.Frame.{rasterCell, rasterLeaves}

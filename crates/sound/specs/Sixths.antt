@@ -1,4 +1,4 @@
--- Stereo values 1 to 7 give left 6, 5, 4, 3, 2, 1, 0 sixths, right the rest.
+-- How a stereo value shares a byte between the sides: 7 less the value goes left, in sixths, and what is left of six goes right.
 use Prim.Native.Nat.{ℕ, _-_}
 use Rattle.registers.specs.Stereo.{stereoOf}
 use Rattle.registers.specs.declared.record.Registers.{Registers}

@@ -1,4 +1,4 @@
--- Each byte writes left then right; the counter before a byte says its channel, and runs over from 4,294,967,295 to 0.
+-- The values of bytes in turn, left before right; the counter, which has 32 bits, says each byte's channel.
 use Prim.Native.Nat.{ℕ, _+_, _%_, _^_}
 use mathlib.Core.List.{List, [], _∷_}
 use lib.IntN.{ℤ}

@@ -10,7 +10,7 @@ ghost use Rattle.buffers.specs.Words.{bytesOf};
 ghost use Rattle.sound.specs.Values.{counterAfter, valuesOf};
 ghost use Rattle.sound.specs.inner.Tables.{Amplitudes, inTable, Sixths};
 
-// The counter some bytes later: it runs over from 4,294,967,295 to 0.
+// The counter some bytes later: after 4,294,967,295 it starts again at 0.
 fn advanced(counter: u32, bytes: u32) -> u32
     ensures { λ r. ⌜ r ≡ counterAfter counter bytes ⌝ }
 {

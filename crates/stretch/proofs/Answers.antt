@@ -17,7 +17,8 @@ use Rattle.refusals.specs.declared.Refusal.{Refusal}
 use Rattle.registers.specs.declared.check.Checked.{Checked}
 use Rattle.registers.specs.declared.check.Checked.the-variants as checked
 use Rattle.refusals.proofs.Tables.{passed, passes-first, passes-given, given-passes, and-then-judged}
-use Rattle.registers.proofs.Accepted.{Accepted, accepted}
+use Rattle.registers.specs.inner.Accepted.{Accepted}
+use Rattle.registers.proofs.Accepted.{accepted}
 use Rattle.stretch.specs.Stretch.{stretchOf, rasterRows, stretchTable, stretchTold, foundSays, PartOf, answerTold}
 use Rattle.stretch.specs.declared.found.Stretch.{Stretch}
 use Rattle.stretch.specs.declared.found.Found.{Found}

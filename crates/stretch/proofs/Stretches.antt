@@ -10,7 +10,7 @@ use Rattle.buffers.proofs.Tests.{and-split, and-join}
 use Rattle.buffers.proofs.Split.{is-false}
 use Rattle.registers.specs.Setting.{displayOn, rasterWords, videoWords}
 use Rattle.registers.specs.declared.setting.Setting.{Setting}
-use Rattle.registers.proofs.Accepted.{Accepted}
+use Rattle.registers.specs.inner.Accepted.{Accepted}
 use Rattle.cells.specs.Cell.{within}
 use Rattle.cells.specs.Pixel.{pixel, logical, firstWord}
 use Rattle.cells.proofs.Regions.{within-true, true-within}

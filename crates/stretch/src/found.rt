@@ -6,7 +6,7 @@ use registers::setting::Setting;
 use registers::units::Rasters;
 ghost use mathlib.Core.Path.{_≡_};
 ghost use Rattle.refusals.specs.Table.{judged};
-ghost use Rattle.registers.proofs.Accepted.{Accepted};
+ghost use Rattle.registers.specs.inner.Accepted.{Accepted};
 ghost use Rattle.stretch.specs.Stretch.{rasterRows, stretchOf, stretchTold, foundSays};
 
 pub struct Stretch {

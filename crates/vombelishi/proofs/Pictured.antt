@@ -8,7 +8,8 @@ use Rattle.registers.specs.Check.{checkTold}
 use Rattle.registers.specs.declared.record.Registers.{Registers}
 use Rattle.registers.specs.declared.setting.Setting.{Setting}
 use Rattle.refusals.proofs.Tables.{never}
-use Rattle.registers.proofs.Accepted.{Accepted, accepted}
+use Rattle.registers.specs.inner.Accepted.{Accepted}
+use Rattle.registers.proofs.Accepted.{accepted}
 use Rattle.stretch.specs.declared.found.Stretch.{Stretch}
 use Rattle.vombelishi.specs.Code.{answerCode}
 use Rattle.vombelishi.specs.Record.{lacking, recordOf, recordTold, underRecord}

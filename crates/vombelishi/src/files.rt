@@ -53,7 +53,7 @@ pub extern "C" fn vom_read(file: &[u8], places: &mut [u64]) -> u64
     }
 }
 
-// All words before the trailer, in order; 14, then 13.
+// Copies every word that stands before the trailer; 14, then 13.
 #[no_mangle]
 pub extern "C" fn vom_copy(file: &[u8], words: &mut [u32]) -> u64
     ensures { λ r. ⌜

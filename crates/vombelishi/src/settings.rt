@@ -14,7 +14,7 @@ ghost use Prim.Native.Nat.{_≤_};
 ghost use mathlib.Core.Bool.{cond};
 ghost use lib.ListN.{length};
 ghost use lib.Seq.{sets};
-ghost use Rattle.registers.proofs.Accepted.{Accepted};
+ghost use Rattle.registers.specs.inner.Accepted.{Accepted};
 ghost use Rattle.registers.specs.Check.{checkSays};
 ghost use Rattle.refusals.specs.Refusals.{answerSays};
 ghost use Rattle.vombelishi.specs.Code.{answerCode, storedBy};
