@@ -14,6 +14,7 @@ use Rattle.registers.specs.Check.{settingTable}
 use Rattle.registers.specs.Sound.{soundTable}
 use Rattle.registers.specs.declared.record.Registers.{Registers}
 use Rattle.cells.specs.Picture.{pictureTable}
+use Rattle.cells.proofs.Pictures.{picture-told}
 use Rattle.frame.specs.Frame.{cells, frameCell, frameTable, frameLeaves, rasterCell, rasterTable, rasterLeaves}
 use Rattle.frame.proofs.Told.{frame-told, raster-told}
 use Rattle.marks.proofs.Told.{marks-told}
@@ -28,7 +29,7 @@ use Rattle.plates.specs.Plate.{sectionsOf, plateOf, plateLength}
 use Rattle.plates.specs.Read.{copied}
 use Rattle.claims.specs.Calls.{Every, numbers, ByTable, Kept}
 use Rattle.claims.specs.Views as call
-use Rattle.claims.specs.Views.{LoadRun, FrameRun, RasterRun, MarksRun, StretchRun, PlayRun, PairRun, CopyRun, WriteRun}
+use Rattle.claims.specs.Views.{LoadRun, PictureRun, FrameRun, RasterRun, MarksRun, StretchRun, PlayRun, PairRun, CopyRun, WriteRun}
 use Rattle.claims.specs.Rows.{wordRows, playRows, pairRows, readRows, copyRows, writeRows}
 use Rattle.claims.proofs.Tables.{by-table, kept}
 use Rattle.claims.proofs.Judged.{load-told, check-told, sound-told}
@@ -51,8 +52,9 @@ pub raster-numbers : (g : Registers) (video cursor : List ℕ) (y room : ℕ)
     → numbers (rasterTable g video cursor y room) ≡ 3 ∷ 4 ∷ 5 ∷ 6 ∷ 7 ∷ 8 ∷ 9 ∷ 11 ∷ 12 ∷ 13 ∷ []
 raster-numbers g video cursor y room = refl
 
-pub marks-numbers : (g : Registers) (video cursor : List ℕ) → numbers (pictureTable g video cursor) ≡ 3 ∷ 4 ∷ 5 ∷ 6 ∷ 7 ∷ 8 ∷ 9 ∷ 11 ∷ []
-marks-numbers g video cursor = refl
+-- Judging a picture and counting its marks have one table.
+pub picture-numbers : (g : Registers) (video cursor : List ℕ) → numbers (pictureTable g video cursor) ≡ 3 ∷ 4 ∷ 5 ∷ 6 ∷ 7 ∷ 8 ∷ 9 ∷ 11 ∷ []
+picture-numbers g video cursor = refl
 
 pub raster-words-numbers : (g : Registers) (video : List ℕ) (y : ℕ) → numbers (stretchTable g video y) ≡ 3 ∷ 4 ∷ 5 ∷ 6 ∷ 7 ∷ 8 ∷ 9 ∷ 11 ∷ 12 ∷ []
 raster-words-numbers g video y = refl
@@ -94,6 +96,13 @@ check-refuses κs a x s p = by-table _ _ (p ∙ check-told (call.check .seen κs
 
 pub check-sound-refuses : Every call.checkSound λ run. ByTable (run .answer) (soundTable (run .registers)) tt
 check-sound-refuses κs a x s p = by-table tt _ (p ∙ sound-told (call.checkSound .seen κs a x s .registers))
+
+-- Judging a picture; what is given is the setting.
+pub judge-refuses : Every call.judge λ run.
+    ByTable (run .answer) (pictureTable (run .registers) (run .video) (run .cursor)) (settingOf (run .registers))
+judge-refuses κs a x s p =
+    let run : PictureRun = call.judge .seen κs a x s in
+    by-table _ _ (p ∙ picture-told (run .registers) (run .video) (run .cursor))
 
 -- Picture calls.
 pub frame-refuses : Every call.frame λ run.
