@@ -18,7 +18,8 @@ _and_ : {A B : Type 0} → A → B → A × B
 p and q = (p, q)
 
 pub all-marked-cases : AllHold markedCases
-unfolding eachFrom painted reserved storedOf applied lowest settingOf videoWords cursorWords checkTold pixel cursorPair plainCode covered code cell frameTold rasterCell rasterTold rasterLeaves amplitudeOf signedOf valueOf pairTold
+unfolding eachFrom painted reserved storedOf applied lowest settingOf videoWords cursorWords checkTold
+    pixel cursorPair plainCode covered code cell frameTold rasterCell rasterTold rasterLeaves amplitudeOf signedOf valueOf pairTold
 all-marked-cases =
     (refl, refl)
     and (refl, refl)

@@ -6,9 +6,8 @@ use native.Mathlib.Omega.{arith}
 use borrow.Author.Tests.{ne-eqb}
 use Rattle.registers.specs.declared.record.Registers.{Registers}
 use Rattle.registers.specs.declared.setting.Setting.{Setting}
-use Rattle.frame.specs.Cell.{code, cell}
 use Rattle.colours.specs.Cells.{cellColour}
-use Rattle.pictures.specs.Colours.{red, green, blue, cellColour}
+use Rattle.pictures.specs.Colours.{red, green, blue}
 use Rattle.cells.specs.Cell.{code, cell}
 
 module _ (g : Registers) (s : Setting) (video cursor : List ℕ) (x y : ℕ) (h : code s cursor x y ≤ 3) where

@@ -13,7 +13,7 @@ use Rattle.buffers.proofs.Paints.{Paints, paints-of}
 use Rattle.buffers.proofs.Words.{Below}
 use Rattle.refusals.specs.Table.{Told, given, unlessRefused}
 use Rattle.refusals.proofs.Tables.{passed}
-use Rattle.registers.specs.Setting.{settingOf, videoWords, cursorWords}
+use Rattle.registers.specs.Setting.{settingOf}
 use Rattle.registers.specs.Rules.{EveryRule}
 use Rattle.registers.specs.declared.record.Registers.{Registers}
 use Rattle.registers.proofs.Exactly.{exactly}
@@ -29,7 +29,6 @@ use Rattle.plates.proofs.RoundTrip as round-trip
 use Rattle.claims.specs.Calls.{Every}
 use Rattle.claims.specs.Views as call
 use Rattle.claims.specs.Views.{RasterRun, MarksRun}
-use Rattle.claims.specs.Rows.{rasterRows}
 use Rattle.claims.specs.Framed.{On, Right, Framed, Rastered}
 use Rattle.claims.specs.RoundTrip.{ReadsBack, Cut}
 use Rattle.claims.proofs.Runs.{framed}

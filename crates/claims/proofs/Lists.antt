@@ -3,7 +3,8 @@ use Prim.Native.Nat.{ℕ, _+_, _*_, _-_, _/_, _%_, _^_, _<_, _≤_}
 use mathlib.Core.Path.{_≡_, sym, _∙_, ap}
 use mathlib.Core.List.{List}
 use mathlib.Core.Logic.{_⊎_, inl, inr}
-use native.Mathlib.Nat.{zero-div, zero-mod, lt-of-lt-of-le, add-mul, mul-assoc, mul-mod-left, mod-eq-of-lt, mod-lt, div-eq-of-lt, div-add-mod', mul-le-mul-right, mul-lt-mul-of-pos-right}
+use native.Mathlib.Nat.{zero-div, zero-mod, lt-of-lt-of-le, add-mul, mul-assoc, mul-mod-left}
+use native.Mathlib.Nat.{mod-eq-of-lt, mod-lt, div-eq-of-lt, div-add-mod', mul-le-mul-right, mul-lt-mul-of-pos-right}
 use native.Mathlib.Omega.{arith}
 use lib.ListN.{length, getD, set, replicate, length-set, length-replicate, getD-replicate, List·getD-eq-default}
 use lib.Pow.{pow-add, pow-mono, shl-lt, shl-shr, shr-shr}

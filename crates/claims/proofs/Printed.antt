@@ -14,13 +14,11 @@ use Rattle.registers.specs.Load.{loadTable, loadTold}
 use Rattle.registers.specs.Setting.{settingOf}
 use Rattle.registers.specs.Sound.{soundTable, soundTold}
 use Rattle.refusals.proofs.Tables.{and-then-judged}
-use Rattle.registers.specs.declared.record.Registers.{Registers}
 use Rattle.registers.proofs.Told.{load-told, sound-told}
-use Rattle.frame.specs.Frame.{wordsWrong}
 use Rattle.plates.specs.Plate.{sectionsOf}
 use Rattle.plates.specs.Read.{readTable, readTold}
 use Rattle.plates.proofs.Told.{read-told}
-use Rattle.runs.specs.Sheet.{mostInput, registerWords, videoList, cursorList, soundList, registersOf, takenTold, pictureTold, sheetTold}
+use Rattle.runs.specs.Sheet.{mostInput, registerWords, videoList, cursorList, soundList, registersOf, takenTold, sheetTold}
 use Rattle.cells.specs.Picture.{pictureTable, pictureTold}
 use Rattle.cells.proofs.Pictures.{picture-told}
 use Rattle.runs.specs.Text.{refusedLine, pictureLine, lineFor, lineAt, firstLines, textOf}
@@ -31,7 +29,7 @@ use Rattle.claims.specs.Views as call
 use Rattle.claims.specs.Views.{PieceRun}
 use Rattle.claims.specs.Pieces.{Stored, StoredBy}
 use Rattle.claims.specs.Rows.{takenRows, sheetRows, waveRows}
-use Rattle.claims.proofs.Tables.{by-table, and-then-judged}
+use Rattle.claims.proofs.Tables.{by-table}
 
 pub wave-numbers : (file : List ℕ) → numbers (waveRows file) ≡ 15 ∷ 14 ∷ 1 ∷ 2 ∷ 3 ∷ 10 ∷ []
 wave-numbers file = refl

@@ -7,10 +7,6 @@ use lib.ListN.{take, drop}
 use Rattle.refusals.specs.Table.{Why, Told, given, refused, Passes, First}
 use Rattle.registers.specs.Setting.{settingOf}
 use Rattle.registers.specs.declared.record.Registers.{Registers}
-use Rattle.refusals.proofs.Tables.{passes-first, passes-given}
-use Rattle.registers.specs.inner.Accepted.{Accepted}
-use Rattle.registers.proofs.Accepted.{accepted}
-use Rattle.frame.specs.Pixel.{pixel, logical}
 use Rattle.cells.specs.Pixel.{pixel, logical}
 use Rattle.stretch.specs.Stretch.{isDisplayed, stretchOf, stretchTable, stretchTold, wordsTold, startTold}
 use Rattle.stretch.specs.declared.found.Stretch.{Stretch}

@@ -16,6 +16,8 @@ use Rattle.registers.proofs.record.Registers.check.Kinds as check-kinds
 use Rattle.registers.proofs.record.Registers.check.Reads as check-reads
 use Rattle.registers.proofs.record.Registers.check_sound.Kinds as check-sound-kinds
 use Rattle.registers.proofs.record.Registers.check_sound.Reads as check-sound-reads
+use Rattle.cells.proofs.judge.Kinds as judge-kinds
+use Rattle.cells.proofs.judge.Reads as judge-reads
 use Rattle.frame.proofs.frame.Kinds as frame-kinds
 use Rattle.frame.proofs.frame.Reads as frame-reads
 use Rattle.frame.proofs.raster.Kinds as raster-kinds
@@ -82,6 +84,17 @@ check = call 0 check-kinds.ps check-kinds.r check-reads.Post (CheckRun Setting) 
 abbrev pub checkSound : Call
 checkSound = call 0 check-sound-kinds.ps check-sound-kinds.r check-sound-reads.Post (CheckRun (Unit {0}))
     λ κs a x s. record { registers = a .0; answer = answerSays x }
+
+-- Judging a picture: a record with its word lists.
+pub record PictureRun : Type 0 where
+  pub registers : Registers
+  pub video : List ℕ
+  pub cursor : List ℕ
+  pub answer : Told Setting
+
+abbrev pub judge : Call
+judge = call 2 judge-kinds.ps judge-kinds.r judge-reads.Post PictureRun
+    λ κs a x s. record { registers = a .0; video = now (a .1 .0); cursor = now (a .1 .1 .0); answer = checkSays x }
 
 -- The frame, one raster of it, and its mark count.
 pub record FrameRun : Type 0 where

@@ -1,5 +1,5 @@
 -- What the crates above know of an accepted setting: each field of `Accepted` is one of the rules, or a bound that its bits give.
-use Prim.Native.Nat.{ℕ, zero, suc, _*_, _-_, _/_, _%_, _<_, _≤_}
+use Prim.Native.Nat.{ℕ, zero, suc, _*_, _-_, _/_, _<_, _≤_}
 use mathlib.Core.Path.{_≡_, refl}
 use mathlib.Core.Bool.{true, false}
 use mathlib.Core.List.{[], _∷_}

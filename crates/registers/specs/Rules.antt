@@ -1,7 +1,7 @@
 -- Every rule of a setting as a plain fact, in the paper's words. A record is accepted exactly when they all hold.
 use Prim.Native.Nat.{ℕ, _*_, _-_, _%_, _<_, _≤_}
 use mathlib.Core.Path.{_≡_}
-use mathlib.Core.Bool.{true, false}
+use mathlib.Core.Bool.{true}
 use mathlib.Core.Logic.{_⊎_}
 use Rattle.registers.specs.Control.{control, interlaceField, testField}
 use Rattle.registers.specs.Geometry.{subPosition}
