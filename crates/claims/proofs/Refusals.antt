@@ -17,11 +17,7 @@ use Rattle.registers.specs.declared.record.Registers.{Registers}
 use Rattle.registers.proofs.Told.{load-told, check-told, sound-told}
 use Rattle.frame.specs.Frame.{cells, frameCell, frameLeaves, rasterCell, rasterLeaves, frameTable, rasterTable}
 use Rattle.cells.specs.Picture.{pictureTable}
-<<<<<<< HEAD
-=======
 use Rattle.cells.proofs.Pictures.{picture-told}
-use Rattle.frame.specs.Frame.{cells, frameCell, frameTable, frameLeaves, rasterCell, rasterTable, rasterLeaves}
->>>>>>> cells
 use Rattle.frame.proofs.Told.{frame-told, raster-told}
 use Rattle.marks.proofs.Told.{marks-told}
 use Rattle.stretch.proofs.Told.{stretch-told}
@@ -38,11 +34,7 @@ use Rattle.sound.proofs.Told.{play-told, pair-told}
 use Rattle.plates.proofs.Told.{read-told, copy-told, write-told}
 use Rattle.claims.specs.Calls.{Every, numbers, settingNumbers, ByTable, Kept}
 use Rattle.claims.specs.Views as call
-<<<<<<< HEAD
-use Rattle.claims.specs.Views.{LoadRun, FrameRun, RasterRun, MarksRun, StretchRun, PlayRun, PairRun, CopyRun, WriteRun}
-=======
 use Rattle.claims.specs.Views.{LoadRun, PictureRun, FrameRun, RasterRun, MarksRun, StretchRun, PlayRun, PairRun, CopyRun, WriteRun}
->>>>>>> cells
 use Rattle.claims.proofs.Tables.{by-table, kept}
 
 -- The numbers of each table, in its order.
@@ -62,14 +54,9 @@ pub raster-numbers : (g : Registers) (video cursor : List ℕ) (y room : ℕ)
     → numbers (rasterTable g video cursor y room) ≡ settingNumbers ++ (11 ∷ 12 ∷ 13 ∷ [])
 raster-numbers g video cursor y room = refl
 
-<<<<<<< HEAD
-pub marks-numbers : (g : Registers) (video cursor : List ℕ) → numbers (pictureTable g video cursor) ≡ settingNumbers ++ (11 ∷ [])
-marks-numbers g video cursor = refl
-=======
 -- Judging a picture and counting its marks have one table.
-pub picture-numbers : (g : Registers) (video cursor : List ℕ) → numbers (pictureTable g video cursor) ≡ 3 ∷ 4 ∷ 5 ∷ 6 ∷ 7 ∷ 8 ∷ 9 ∷ 11 ∷ []
+pub picture-numbers : (g : Registers) (video cursor : List ℕ) → numbers (pictureTable g video cursor) ≡ settingNumbers ++ (11 ∷ [])
 picture-numbers g video cursor = refl
->>>>>>> cells
 
 pub raster-words-numbers : (g : Registers) (video : List ℕ) (y : ℕ) → numbers (stretchTable g video y) ≡ settingNumbers ++ (11 ∷ 12 ∷ [])
 raster-words-numbers g video y = refl
