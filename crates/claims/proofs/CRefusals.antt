@@ -46,7 +46,6 @@ use Rattle.claims.specs.CRows.{ofRecord, roomFor, textRows}
 use Rattle.claims.specs.CViews as c
 use Rattle.claims.specs.CViews.{LoadRun, CheckRun, CheckSoundRun, FrameRun, RasterRun, WordsRun, MarksRun, ColourRun}
 use Rattle.claims.specs.CViews.{SoundRun, PairRun, FileRun, WriteRun, TextRun}
-
 use Rattle.claims.proofs.CCodes.{no-rows, plain, fits-after, setting-fits, sound-fits, load-fits}
 use Rattle.claims.proofs.CCodes.{by-code, kept-code, kept-under, record-told, record-fits, record-code, room-code}
 

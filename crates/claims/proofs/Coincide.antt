@@ -2,7 +2,8 @@
 -- Of `raster_words` it says that any two answers read the same words at the same place.
 pub use Rattle.refusals.proofs.Unique.{one-number, one-detail}
 pub use Rattle.registers.proofs.Unique.{one-pixels, one-width-from, one-height-from, one-of-value, one-is-reserved}
-pub use Rattle.registers.proofs.Unique.{one-addresses, one-of-slots, one-new, one-store, one-palette, one-border, one-cursor-colour, one-display-on, one-border-on}
+pub use Rattle.registers.proofs.Unique.{one-addresses, one-of-slots, one-new, one-store, one-palette, one-border, one-cursor-colour}
+pub use Rattle.registers.proofs.Unique.{one-display-on, one-border-on}
 pub use Rattle.registers.proofs.Unique.{one-video-words, one-cursor-words, one-pixel-rate, one-control, one-entries-in-use, one-sub-position}
 pub use Rattle.registers.proofs.Unique.{one-cursor-on, one-setting, one-stereo, one-sound-frequency, one-load-word, one-load, one-check}
 pub use Rattle.registers.proofs.Unique.{one-check-sound}

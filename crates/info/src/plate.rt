@@ -6,10 +6,10 @@ use crate::words::print_words;
 use marks::answer::Marks;
 use plates::Reading;
 use plates::Sections;
-use registers::check::Checked;
-use registers::record::Registers;
 use refusals::Answer;
 use refusals::Refusal;
+use registers::check::Checked;
+use registers::record::Registers;
 ghost use Prim.Native.Nat.{_≤_};
 ghost use lib.ListN.{length};
 

@@ -3,9 +3,9 @@ use crate::line::Line;
 use crate::names::put_register;
 use crate::terms::put_depth;
 use crate::words::address_of;
-use registers::record::Registers;
 use refusals::Answer;
 use refusals::Refusal;
+use registers::record::Registers;
 use registers::setting::Setting;
 
 // A number of those that a rule compares.

@@ -2,8 +2,8 @@
 use crate::sheet::Taken;
 use crate::sheet::take;
 use crate::words::put_refused;
-use registers::record::Registers;
 use refusals::Answer;
+use registers::record::Registers;
 ghost use mathlib.Core.Path.{_≡_};
 ghost use Prim.Native.Nat.{_≤_};
 ghost use lib.ListN.{length};

@@ -1,10 +1,10 @@
 // A plate taken apart, its words copied out: 15, 14, 1, 2; and judged for its picture: 3 to 9, 11.
 use cells::judge;
 use plates::Reading;
-use registers::check::Checked;
-use registers::record::Registers;
 use refusals::Answer;
 use refusals::Refusal;
+use registers::check::Checked;
+use registers::record::Registers;
 ghost use mathlib.Core.Path.{_≡_};
 ghost use Prim.Native.Nat.{_≤_};
 ghost use lib.ListN.{length};

@@ -1,9 +1,9 @@
 // Register words loaded into a record that C holds: judged by the register library, then each stored in both slices.
 use crate::code::refused;
 use crate::record::lacks;
-use registers::record::Registers;
 use refusals::Answer;
 use refusals::Refusal;
+use registers::record::Registers;
 ghost use mathlib.Core.Path.{_≡_};
 ghost use Prim.Native.Nat.{_≤_};
 ghost use lib.ListN.{length};

@@ -47,9 +47,14 @@ loop-less c = search needs
 
 loop-again : tie.Need-loop-again Inv-loop μ-loop
 loop-again c =
-    let l = c .before .before .before .loop in
-    (search needs, l .inv .1, l .inv .2, paint-more _ (search needs) (search needs) refl (l .inv .3), paint-more _ (search needs) (search needs) refl
-    (l .inv .4))
+    let l = c .before .before .before .loop in (
+      search needs,
+      l .inv .1,
+      l .inv .2,
+      paint-more _ (search needs) (search needs) refl (l .inv .3),
+      paint-more _ (search needs) (search needs) refl
+          (l .inv .4),
+    )
 
 of-slots-requires : tie.Need-of-slots-requires Inv-loop μ-loop
 of-slots-requires c κs = search needs
