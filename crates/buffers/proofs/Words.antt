@@ -7,11 +7,7 @@ use native.Mathlib.Nat.{add-zero}
 use native.Mathlib.Omega.{arith}
 use lib.ListN.{length, getD, drop, take}
 use lib.Seq.{drop-cons, drop-drop, getD-drop}
-use Rattle.buffers.specs.Words.{word, wordAt, wordsOf, bytesOf, byteOf}
-
--- every element is below n
-abbrev pub Below : ℕ → List ℕ → Type 0
-Below n l = (i : ℕ) → getD l i 0 < n
+use Rattle.buffers.specs.Words.{Below, word, wordAt, wordsOf, bytesOf, byteOf}
 
 pub below-append : (n : ℕ) (xs ys : List ℕ) → Below n xs → Below n ys → Below n (xs ++ ys)
 below-append n [] ys p q i = q i

@@ -1,5 +1,5 @@
 -- Words of 32 bits and their bytes, lowest byte first.
-use Prim.Native.Nat.{ℕ, _+_, _*_, _/_, _%_, _^_}
+use Prim.Native.Nat.{ℕ, _+_, _*_, _/_, _%_, _^_, _<_}
 use mathlib.Core.List.{List, [], _∷_}
 use lib.ListN.{getD}
 
@@ -27,3 +27,7 @@ bytesOf (w ∷ words) = w % 256 ∷ w / 256 % 256 ∷ w / 65536 % 256 ∷ w / 16
 -- Byte k of a list of words.
 abbrev pub byteOf : List ℕ → ℕ → ℕ
 byteOf words k = getD words (k / 4) 0 / 2 ^ (8 * (k % 4)) % 256
+
+-- Every number of a list is below n.
+abbrev pub Below : ℕ → List ℕ → Type 0
+Below n l = (i : ℕ) → getD l i 0 < n

@@ -10,7 +10,7 @@ use lib.Seq.{sets}
 use borrow.Author.Tests.{ltb-false}
 use Rattle.buffers.specs.Painted.{painted}
 use Rattle.buffers.proofs.Paints.{Paints, paints-of}
-use Rattle.buffers.proofs.Words.{Below}
+use Rattle.buffers.specs.Words.{Below}
 use Rattle.refusals.specs.Table.{Told, given, unlessRefused}
 use Rattle.refusals.proofs.Tables.{passed}
 use Rattle.registers.specs.Setting.{settingOf}
@@ -22,7 +22,8 @@ use Rattle.marks.specs.Count.{bit, countBelow}
 use Rattle.marks.specs.Marks.{isMark, marksOf}
 use Rattle.marks.proofs.Answers.{marks-counted}
 use Rattle.marks.proofs.Totals.{total-as}
-use Rattle.sound.proofs.Places.{EveryPlace, every-place}
+use Rattle.sound.specs.Places.{EveryPlace}
+use Rattle.sound.proofs.Places.{every-place}
 use Rattle.plates.specs.Plate.{mostBytes, plateLength}
 use Rattle.plates.specs.declared.Sections.{Sections}
 use Rattle.plates.proofs.RoundTrip as round-trip

@@ -10,7 +10,7 @@ use lib.ListN.{length, getD, set, replicate, length-set, length-replicate, getD-
 use lib.Pow.{pow-add, pow-mono, shl-lt, shl-shr, shr-shr}
 use lib.Seq.{getD-set-same, getD-set-other}
 use Rattle.buffers.proofs.Split.{lt-or-le}
-use Rattle.buffers.proofs.Words.{Below}
+use Rattle.buffers.specs.Words.{Below}
 use Rattle.registers.specs.Setting.{rasterWords, videoWords}
 use Rattle.registers.specs.declared.setting.Setting.{Setting}
 use Rattle.registers.specs.inner.Accepted.{Depth, Accepted}

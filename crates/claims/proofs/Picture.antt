@@ -10,9 +10,8 @@ use lib.Arith.{digits-div, digits-mod}
 use lib.ListN.{length, getD, take}
 use lib.Seq.{ext-getD, getD-take, length-take-le}
 use Rattle.buffers.proofs.Tests.{and-split}
-use Rattle.buffers.proofs.Words.{Below}
 use Rattle.refusals.specs.Table.{given}
-use Rattle.registers.specs.Setting.{settingOf, videoWords, cursorWords}
+use Rattle.registers.specs.Setting.{settingOf, cursorWords}
 use Rattle.registers.specs.Check.{checkTold}
 use Rattle.registers.specs.declared.record.Registers.{Registers}
 use Rattle.registers.specs.declared.setting.Setting.{Setting}
@@ -27,7 +26,7 @@ use Rattle.cells.proofs.Pictures.{picture-checked, picture-given}
 use Rattle.cells.proofs.Regions.{display-inside, display-on}
 use Rattle.cells.proofs.PixelPlaces.{pixel-below}
 use Rattle.claims.specs.Shown.{Distinct, Alike, uncovered, SamePixels, frameIn}
-use Rattle.claims.specs.Exhibited.{onePixel}
+use Rattle.claims.specs.Exhibited.{onePixel, Confused}
 use Rattle.claims.specs.Calls.{Every}
 use Rattle.claims.specs.Views as call
 use Rattle.claims.specs.Framed.{On, Right, Framed}
@@ -145,17 +144,6 @@ like-colours g i j x y a here alike v w = go (by-cases (position s v w) (positio
         ∙ sym (ap (λ (n : ℕ). colourOf g (s .depth) (pixel (onePixel s x y j) (s .depth) n)) e)
     go (inr e) =
         ap (colourOf g (s .depth)) (one-other s a x y here i (like .1) (position s v w) e ∙ sym (one-other s a x y here j (like .2) (position s v w) e))
-
--- Two video lists that the frame call cannot tell apart.
-pub record Confused (g : Registers) (cursor video other : List ℕ) : Type 0 where
-  pub different : video ≡ other → ⊥
-  pub video-size : length video ≡ videoWords (settingOf g)
-  pub other-size : length other ≡ videoWords (settingOf g)
-  pub video-words : Below (2 ^ 32) video
-  pub other-words : Below (2 ^ 32) other
-  pub one-frame : Every call.frame λ run. Every call.frame λ run′. On g video cursor run → On g other cursor run′
-      → cells (settingOf g) ≤ length (run .before) → cells (settingOf g) ≤ length (run′ .before)
-      → frameIn (settingOf g) (run .after) ≡ frameIn (settingOf g) (run′ .after)
 
 -- Where two entries in use agree in all shown bits and a display position is uncovered, the exhibited lists are such.
 pub frame-confuses : (g : Registers) (cursor : List ℕ) (i j x y : ℕ)

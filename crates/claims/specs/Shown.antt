@@ -43,6 +43,10 @@ pub record Alike (g : Registers) (i j : ℕ) : Type 0 where
   pub places : i ≡ j → ⊥
   pub agree : differ (depthOf g) (paletteOf g i) (paletteOf g j) ≡ false
 
+-- Some two entries are alike.
+abbrev pub TwoAlike : Registers → Type 0
+TwoAlike g = (i : ℕ) × (j : ℕ) × Alike g i j
+
 -- A display position that the cursor leaves uncovered.
 unfoldable pub uncovered : Setting → List ℕ → ℕ → ℕ → Bool
 uncovered s cursor x y = inDisplay s x y && not (covered s cursor x y)

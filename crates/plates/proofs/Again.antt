@@ -6,8 +6,8 @@ use Prim.Native.Nat.{ℕ, _+_, _*_, _-_, _≤_}
 use native.Mathlib.Omega.{arith}
 use lib.ListN.{length, take, drop, length-drop, take-append-drop}
 use lib.Seq.{sets, length-sets, drop-length, sets-eq, slice, length-slice, length-take-le, take-take, take-append-le, take-all, drop-append-le}
-use Rattle.buffers.specs.Words.{wordsOf, bytesOf}
-use Rattle.buffers.proofs.Words.{Below, below-take, below-drop, bytes-append, bytes-back, length-words, words-cons}
+use Rattle.buffers.specs.Words.{wordsOf, bytesOf, Below}
+use Rattle.buffers.proofs.Words.{below-take, below-drop, bytes-append, bytes-back, length-words, words-cons}
 use Rattle.plates.specs.Plate.{right, rOf, vOf, cOf, sOf, plateOf}
 use Rattle.plates.specs.Read.{copied}
 use Rattle.plates.proofs.Rule.{Ordered}

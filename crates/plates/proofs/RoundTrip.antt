@@ -10,7 +10,7 @@ use borrow.Fn.Kinds.{Dens, resT, endedOf}
 use contract.Lifetimes.{Lfts}
 use denote.Triple.Clauses.{AtExit}
 use denote.Ref.{now}
-use Rattle.buffers.proofs.Words.{Below}
+use Rattle.buffers.specs.Words.{Below}
 use Rattle.refusals.specs.Table.{Told, given, unlessRefused}
 use Rattle.refusals.specs.Refusals.{answerSays}
 use Rattle.plates.specs.Plate.{mostBytes, sectionsBy, plateOf, plateLength}

@@ -7,8 +7,8 @@ use native.Mathlib.Omega.{arith}
 use lib.ListN.{length, getD, take, length-append}
 use lib.Seq.{getD-append-add, take-at}
 use borrow.Author.Tests.{le-leb, eq-eqb}
-use Rattle.buffers.specs.Words.{wordAt, wordsOf, bytesOf}
-use Rattle.buffers.proofs.Words.{Below, below-append, bytes-append, length-bytes, words-at, words-back}
+use Rattle.buffers.specs.Words.{wordAt, wordsOf, bytesOf, Below}
+use Rattle.buffers.proofs.Words.{below-append, bytes-append, length-bytes, words-at, words-back}
 use Rattle.refusals.specs.Table.{given}
 use Rattle.plates.specs.Plate.{mostBytes, rOf, vOf, cOf, sOf, right, sectionsBy, trailerOf, plateOf, plateLength}
 use Rattle.plates.specs.Read.{readTold, copied}

@@ -1,5 +1,5 @@
 -- The reserved addresses lie in three gaps: computed at each of the 64 slots, and beyond them no register has an address.
-use Prim.Native.Nat.{ℕ, zero, suc, _+_, _*_, _<_, _≤_}
+use Prim.Native.Nat.{ℕ, _*_, _<_, _≤_}
 use mathlib.Core.Path.{_≡_, refl, _∙_}
 use mathlib.Core.Bool.{Bool, true, false, _&&_, _||_, not}
 use mathlib.Core.List.{List, [], _∷_}
@@ -7,15 +7,10 @@ use native.Mathlib.Omega.{arith}
 use lib.Dec.{T, ltb}
 use lib.ListN.{replicate}
 use borrow.Author.Tests.{ltb-true, ltb-false, lt-ltb, ne-eqb}
-use Rattle.buffers.specs.Pick.{pick}
 use Rattle.buffers.proofs.Table.{at}
 use Rattle.buffers.proofs.Tests.{and-split, or-right, or-neither}
 use Rattle.registers.specs.Addresses.{addresses}
-use Rattle.registers.specs.Record.{oneOf, reserved}
-
--- Behind the cursor's palette up to the stereo registers, behind the sound frequency up to control, and behind control.
-abbrev pub inGap : ℕ → Bool
-inGap slot = (ltb 19 slot && ltb slot 24) || (ltb 48 slot && ltb slot 56) || ltb 56 slot
+use Rattle.registers.specs.Record.{oneOf, reserved, inGap, reservedBelow}
 
 same : Bool → Bool → Bool
 same true b = b
@@ -65,11 +60,6 @@ pub unreserved : (slot : ℕ) → reserved slot ≡ false → slot < 64
 unreserved slot e =
     let high = or-neither ((ltb 19 slot && ltb slot 24) || (ltb 48 slot && ltb slot 56)) (ltb 56 slot) (gaps-reserved slot ∙ e) .1 in
     omega (arith, ltb-false 56 slot high)
-
--- How many of the first n slots are reserved: of all 64, 18.
-abbrev pub reservedBelow : ℕ → ℕ
-reservedBelow zero = 0
-reservedBelow (suc n) = pick (reserved n) 1 0 + reservedBelow n
 
 pub eighteen-reserved : reservedBelow 64 ≡ 18
 unfolding reserved

@@ -1,9 +1,9 @@
 -- Register words: address and data of a word, the record, and one word stored in it.
-use Prim.Native.Nat.{ℕ, _*_, _/_, _^_}
-use mathlib.Core.Bool.{Bool, true, false, _||_, not}
+use Prim.Native.Nat.{ℕ, zero, suc, _+_, _*_, _/_, _^_}
+use mathlib.Core.Bool.{Bool, true, false, _&&_, _||_, not}
 use mathlib.Core.List.{List, [], _∷_}
 use lib.ListN.{getD, set, replicate}
-use lib.Dec.{eqb}
+use lib.Dec.{ltb, eqb}
 use Rattle.buffers.specs.Bits.{bits}
 use Rattle.buffers.specs.Pick.{pick}
 use Rattle.refusals.specs.Table.{Told, Row, row, judged}
@@ -25,6 +25,15 @@ oneOf (x ∷ xs) a = eqb x a || oneOf xs a
 -- The addresses without a register are reserved.
 unfoldable pub reserved : ℕ → Bool
 reserved slot = not (oneOf addresses (4 * slot))
+
+-- Behind the cursor's palette up to the stereo registers, behind the sound frequency up to control, and behind control.
+abbrev pub inGap : ℕ → Bool
+inGap slot = (ltb 19 slot && ltb slot 24) || (ltb 48 slot && ltb slot 56) || ltb 56 slot
+
+-- How many of the first n slots are reserved: of all 64, 18.
+abbrev pub reservedBelow : ℕ → ℕ
+reservedBelow zero = 0
+reservedBelow (suc n) = pick (reserved n) 1 0 + reservedBelow n
 
 -- The record of what each slot holds, and whether it was written.
 abbrev pub registersBy : List ℕ → List Bool → Registers

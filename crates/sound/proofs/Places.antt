@@ -24,6 +24,7 @@ use Rattle.sound.specs.Sixths.{leftOf, rightOf, leftAt, rightAt}
 use Rattle.sound.specs.Values.{channelOf, counterAfter, valuesOf}
 use Rattle.sound.specs.Play.{playTold, playedOf}
 use Rattle.sound.specs.Pair.{sidesOf}
+use Rattle.sound.specs.Places.{EveryPlace}
 use Rattle.sound.proofs.Signed.{value-range}
 use Rattle.registers.proofs.Heard.{stereo-positive}
 use Rattle.sound.proofs.Accepted.{played}
@@ -62,18 +63,6 @@ module _ (left right : ℕ → ℕ) where
   right-value counter (byte ∷ bytes) (suc k) h =
       let n : 2 * suc k + 1 ≡ suc (suc (2 * k + 1)) = omega arith in
       rw (n, ← later counter k) (right-value (counterAfter counter 1) bytes k (omega arith))
-
--- After a call that is not refused, by place: byte k leaves its word low first, at the channel of the counter before it.
-pub record EveryPlace (g : Registers) (words : List ℕ) (counter : ℕ) (out after : List ℤ) : Type 0 where
-  pub left-place :
-      (k : ℕ) → k < 4 * length words
-      → getD after (2 * k) (pos 0) ≡ valueOf (byteOf words k) (leftAt g (channelOf (counterAfter counter k)))
-  pub right-place :
-      (k : ℕ) → k < 4 * length words
-      → getD after (2 * k + 1) (pos 0) ≡ valueOf (byteOf words k) (rightAt g (channelOf (counterAfter counter k)))
-  pub within : (i : ℕ) → i < 8 * length words → natAbs (getD after i (pos 0)) ≤ 23712
-  pub beyond : (i : ℕ) → 8 * length words ≤ i → getD after i (pos 0) ≡ getD out i (pos 0)
-  pub long : length after ≡ length out
 
 module _ (g : Registers) (words : List ℕ) (counter : ℕ) (out : List ℤ) (told-given : playTold g (length words) (length out) ≡ given tt) where
   abbrev values : List ℤ

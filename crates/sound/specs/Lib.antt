@@ -3,4 +3,5 @@ pub mod Sixths
 pub mod Values
 pub mod Play
 pub mod Pair
+pub mod Places
 pub mod inner
