@@ -18,10 +18,10 @@ use Rattle.registers.specs.declared.record.Registers.{Registers}
 use Rattle.frame.specs.Frame.{wordsWrong}
 use Rattle.plates.specs.Plate.{sectionsOf}
 use Rattle.plates.specs.Read.{readTold}
-use Rattle.runs.specs.Sheet.{mostInput, registerWords, videoList, cursorList, soundList, registersOf, takenTold, pictureTold, sheetTold}
-use Rattle.runs.specs.Text.{refusedLine, pictureLine, lineFor, lineAt, firstLines, textOf}
-use Rattle.runs.specs.Strip.{pictureStrip, stripFor, stripAt, firstStrips, pictureOf}
-use Rattle.runs.specs.Wave.{waveTold, waveOf, refusalFor, waveRefusal, waveBlock, blockFor, blockAt}
+use Rattle.outputs.specs.Sheet.{mostInput, registerWords, videoList, cursorList, soundList, registersOf, takenTold, pictureTold, sheetTold}
+use Rattle.outputs.specs.Text.{refusedLine, pictureLine, lineFor, lineAt, firstLines, textOf}
+use Rattle.outputs.specs.Strip.{pictureStrip, stripFor, stripAt, firstStrips, pictureOf}
+use Rattle.outputs.specs.Wave.{waveTold, waveOf, refusalFor, waveRefusal, waveBlock, blockFor, blockAt}
 use Rattle.claims.specs.Calls.{Every, numbers, ByTable}
 use Rattle.claims.specs.Views as call
 use Rattle.claims.specs.Views.{PieceRun}

@@ -21,11 +21,11 @@ use Rattle.marks.specs.Count.{total}
 use Rattle.marks.specs.Marks.{marksOf}
 use Rattle.plates.specs.Plate.{plateOf}
 use Rattle.plates.specs.Read.{readTold}
-use Rattle.runs.specs.Decimal.{digits, decimal}
-use Rattle.runs.specs.Runs.{codeOf, run}
-use Rattle.runs.specs.Sheet.{registerWords, videoList, cursorList, registersOf, takenTold, pictureTold, sheetTold}
-use Rattle.runs.specs.Text.{labelled, headLine, rasterLine, pictureHead, pictureLine, lineAt, firstLines, textOf}
-use Rattle.runs.proofs.Spread.{Codes, _of_, spread, Apart, runsText, line-spread}
+use Rattle.outputs.specs.Decimal.{digits, decimal}
+use Rattle.outputs.specs.Runs.{codeOf, run}
+use Rattle.outputs.specs.Sheet.{registerWords, videoList, cursorList, registersOf, takenTold, pictureTold, sheetTold}
+use Rattle.outputs.specs.Text.{labelled, headLine, rasterLine, pictureHead, pictureLine, lineAt, firstLines, textOf}
+use Rattle.outputs.proofs.Spread.{Codes, _of_, spread, Apart, runsText, line-spread}
 use Rattle.claims.specs.Marked.{smallVideo}
 use Rattle.claims.specs.SmallText.{smallPlate, smallText, bytes}
 

@@ -14,7 +14,7 @@ use Rattle.registers.specs.declared.record.Registers.{Registers}
 use Rattle.frame.specs.Frame.{wordsWrong, frameTable, rasterTable}
 use Rattle.stretch.specs.Stretch.{stretchTable}
 use Rattle.plates.specs.Plate.{mostBytes, right, rOf, plateLength}
-use Rattle.runs.specs.Sheet.{mostInput, registerWords, videoList, cursorList, registersOf}
+use Rattle.outputs.specs.Sheet.{mostInput, registerWords, videoList, cursorList, registersOf}
 
 -- Loading one word alone.
 abbrev pub wordRows : ℕ → List Row

@@ -46,14 +46,14 @@ use Rattle.plates.proofs.copy_out.Kinds as copy-kinds
 use Rattle.plates.proofs.copy_out.Reads as copy-reads
 use Rattle.plates.proofs.write.Kinds as write-kinds
 use Rattle.plates.proofs.write.Reads as write-reads
-use Rattle.runs.proofs.text.line.Kinds as line-kinds
-use Rattle.runs.proofs.text.line.Reads as line-reads
-use Rattle.runs.proofs.strips.strip.Kinds as strip-kinds
-use Rattle.runs.proofs.strips.strip.Reads as strip-reads
-use Rattle.runs.proofs.blocks.block.Kinds as block-kinds
-use Rattle.runs.proofs.blocks.block.Reads as block-reads
-use Rattle.runs.proofs.blocks.refusal.Kinds as refusal-kinds
-use Rattle.runs.proofs.blocks.refusal.Reads as refusal-reads
+use Rattle.outputs.proofs.text.line.Kinds as line-kinds
+use Rattle.outputs.proofs.text.line.Reads as line-reads
+use Rattle.outputs.proofs.strips.strip.Kinds as strip-kinds
+use Rattle.outputs.proofs.strips.strip.Reads as strip-reads
+use Rattle.outputs.proofs.blocks.block.Kinds as block-kinds
+use Rattle.outputs.proofs.blocks.block.Reads as block-reads
+use Rattle.outputs.proofs.blocks.refusal.Kinds as refusal-kinds
+use Rattle.outputs.proofs.blocks.refusal.Reads as refusal-reads
 use Rattle.claims.specs.Calls.{Call, call}
 
 -- Loading one word, or a list.

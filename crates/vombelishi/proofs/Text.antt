@@ -10,10 +10,10 @@ use lib.Seq.{sets, sets-eq, take-append-seam}
 use Rattle.buffers.specs.Put.{Put}
 use Rattle.buffers.proofs.Sets.{sets-append}
 use Rattle.refusals.specs.Table.{why, given, refused}
-use Rattle.runs.specs.Sheet.{sheetTold}
-use Rattle.runs.specs.Text.{lineAt, linesFor, firstLines, textOf}
-use Rattle.runs.proofs.Texts.{no-more}
-use Rattle.runs.proofs.Lines.{last-line, lines-next, all-lines}
+use Rattle.outputs.specs.Sheet.{sheetTold}
+use Rattle.outputs.specs.Text.{lineAt, linesFor, firstLines, textOf}
+use Rattle.outputs.proofs.Texts.{no-more}
+use Rattle.outputs.proofs.Lines.{last-line, lines-next, all-lines}
 use Rattle.vombelishi.specs.Texts.{textCall}
 
 -- The bytes of a line that was stored.

@@ -3,7 +3,7 @@ ghost use mathlib.Core.Path.{_≡_};
 ghost use Prim.Native.Nat.{_≤_, _+_};
 ghost use lib.ListN.{length};
 ghost use lib.Seq.{sets};
-ghost use Rattle.runs.specs.Text.{lineAt};
+ghost use Rattle.outputs.specs.Text.{lineAt};
 
 // How many bytes line k has: none after the last.
 pub fn measure_line(file: &[u8], k: usize) -> usize

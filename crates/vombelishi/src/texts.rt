@@ -6,7 +6,7 @@ ghost use mathlib.Core.Path.{_≡_};
 ghost use Prim.Native.Nat.{_≤_};
 ghost use lib.ListN.{length};
 ghost use lib.Seq.{sets};
-ghost use Rattle.runs.specs.Text.{textOf};
+ghost use Rattle.outputs.specs.Text.{textOf};
 ghost use Rattle.vombelishi.specs.Code.{answerCode, cellBy};
 ghost use Rattle.vombelishi.specs.Texts.{textCall, textLeaves};
 

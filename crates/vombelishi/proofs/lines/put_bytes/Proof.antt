@@ -5,7 +5,7 @@ use native.Mathlib.Nat.{add-zero}
 use native.Mathlib.Omega.{arith}
 use lib.ListN.{length, drop, length-set}
 use lib.Seq.{sets}
-use Rattle.runs.proofs.Puts.{bytes-turn, bytes-done}
+use Rattle.outputs.proofs.Puts.{bytes-turn, bytes-done}
 use Rattle.vombelishi.proofs.lines.put_bytes.Statement.{statement}
 use Rattle.vombelishi.proofs.lines.put_bytes.Tie as tie
 

@@ -3,9 +3,9 @@ use Prim.Native.Nat.{_*_, _-_, _≤_}
 use mathlib.Core.Path.{_≡_, sym, ap, _∙_}
 use native.Mathlib.Omega.{arith}
 use lib.ListN.{length}
-use Rattle.runs.specs.Sheet.{sheetTold}
-use Rattle.runs.specs.Text.{linesFor, firstLines}
-use Rattle.runs.proofs.Lines.{few-lines, last-line, more-lines, no-lines, length-next, all-lines}
+use Rattle.outputs.specs.Sheet.{sheetTold}
+use Rattle.outputs.specs.Text.{linesFor, firstLines}
+use Rattle.outputs.proofs.Lines.{few-lines, last-line, more-lines, no-lines, length-next, all-lines}
 use Rattle.vombelishi.proofs.texts.measure.Statement.{statement}
 use Rattle.vombelishi.proofs.texts.measure.Tie as tie
 

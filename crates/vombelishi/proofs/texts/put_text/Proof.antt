@@ -4,9 +4,9 @@ use mathlib.Core.Path.{_≡_, refl, sym, ap, _∙_}
 use native.Mathlib.Omega.{arith}
 use lib.ListN.{length}
 use lib.Seq.{sets, length-sets}
-use Rattle.runs.specs.Sheet.{sheetTold}
-use Rattle.runs.specs.Text.{linesFor, firstLines}
-use Rattle.runs.proofs.Lines.{few-lines, more-lines, no-lines, length-next, all-lines, lines-room}
+use Rattle.outputs.specs.Sheet.{sheetTold}
+use Rattle.outputs.specs.Text.{linesFor, firstLines}
+use Rattle.outputs.proofs.Lines.{few-lines, more-lines, no-lines, length-next, all-lines, lines-room}
 use Rattle.vombelishi.proofs.Text.{lines-stored, lines-done}
 use Rattle.vombelishi.proofs.texts.put_text.Statement.{statement}
 use Rattle.vombelishi.proofs.texts.put_text.Tie as tie

@@ -3,7 +3,7 @@ use borrow.Author.Needs.{needs}
 use mathlib.Core.Path.{refl}
 use lib.ListN.{length}
 use lib.Seq.{sets}
-use Rattle.runs.specs.Text.{textOf}
+use Rattle.outputs.specs.Text.{textOf}
 use Rattle.vombelishi.specs.Texts.{textCall, textLeaves}
 use Rattle.vombelishi.proofs.Answers.{sized-refused, sized-done}
 use Rattle.vombelishi.proofs.Text.{text-short, text-given}

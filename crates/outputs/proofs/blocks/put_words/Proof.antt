@@ -1,0 +1,48 @@
+use lib.ListN.{length, replicate}
+use lib.IntN.{pos}
+use Rattle.outputs.proofs.Waves.{samples-put}
+use native.Mathlib.Omega.{arith}
+use borrow.Author.Needs.{needs}
+use Rattle.outputs.proofs.blocks.put_words.Statement.{statement}
+use Rattle.outputs.proofs.blocks.put_words.Tie as tie
+
+slice-aggregate-play : tie.Need-slice-aggregate-play
+slice-aggregate-play c = search needs
+
+play-requires : tie.Need-play-requires
+play-requires c κs = search needs
+
+mul-n : tie.Need-mul-n
+mul-n c = search needs
+
+sub-samples : tie.Need-sub-samples
+sub-samples c = search needs
+
+part-samples-start : tie.Need-part-samples-start
+part-samples-start c = search needs
+
+part-samples-end : tie.Need-part-samples-end
+part-samples-end c = search needs
+
+samples-requires : tie.Need-samples-requires
+samples-requires c κs = search needs
+
+same-length : tie.Need-same-length
+same-length c = search needs
+
+returns : tie.Need-returns
+returns c = samples-put (c .before .before .before .before .before .before .before .before .before .before .before .args .g) (c .before .before .before .before .before .before .before .before .before .before .before .args .words .now) (c .before .before .before .before .before .before .before .before .before .before .before .args .counter) (replicate 2048 (pos 0)) _ (c .before .before .before .before .before .before .before .before .before .before .before .pre .2) (c .before .before .before .before .before .before .before .play .ensures .2) (omega (arith, c .before .before .before .before .before .before .before .before .before .before .before .pre .1)) (length (c .before .before .before .before .before .before .before .before .before .before .before .args .out .now)) (omega (arith, c .before .before .before .before .before .before .before .before .before .before .before .pre .0, c .before .before .before .before .before .before .before .before .before .before .before .pre .1)) (c .before .before .samples .ensures)
+
+pub put-words-spec : {M : Type 1} → statement M
+put-words-spec =
+    tie.close
+    (tie.spec
+    slice-aggregate-play
+    play-requires
+    mul-n
+    sub-samples
+    part-samples-start
+    part-samples-end
+    samples-requires
+    same-length
+    returns)

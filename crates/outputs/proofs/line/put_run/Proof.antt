@@ -1,0 +1,36 @@
+use Rattle.outputs.proofs.Stored.{run-stored}
+use Rattle.outputs.proofs.Lengths.{length-run}
+use lib.ListN.{length-set}
+use mathlib.Core.Path.{_∙_}
+use native.Mathlib.Omega.{arith}
+use Rattle.outputs.proofs.line.put_run.Statement.{statement}
+use Rattle.outputs.proofs.line.put_run.Tie as tie
+
+put-number-requires : tie.Need-put-number-requires
+put-number-requires c κs = omega (arith, c .before .before .pre, length-run (c .before .before .args .code) (c .before .before .args .n))
+
+slice-write-out : tie.Need-slice-write-out
+slice-write-out c = omega (arith, c .before .before .before .before .before .pre, length-run (c .before .before .before .before .before .args .code) (c .before .before .before .before .before .args .n), c .before .before .put-number .ensures .0, c .before .before .put-number .kept .0)
+
+add-put-number : tie.Need-add-put-number
+add-put-number c = omega (arith, c .before .before .before .before .before .before .pre, length-run (c .before .before .before .before .before .before .args .code) (c .before .before .before .before .before .before .args .n), c .before .before .before .put-number .ensures .0, c .before .before .before .put-number .kept .0)
+
+put-number-requires-2 : tie.Need-put-number-requires-2
+put-number-requires-2 c κs = simp length-set (omega (arith, c .before .before .before .before .before .before .pre, length-run (c .before .before .before .before .before .before .args .code) (c .before .before .before .before .before .before .args .n), c .before .before .before .put-number .ensures .0, c .before .before .before .put-number .kept .0))
+
+same-length : tie.Need-same-length
+same-length c = c .before .before .put-number2 .kept .0 ∙ (simp length-set (c .before .before .before .before .before .before .put-number .kept .0))
+
+returns : tie.Need-returns
+returns c = (omega (arith, c .before .before .put-number2 .ensures .0, c .before .before .before .before .before .before .put-number .ensures .0, length-run (c .before .before .before .before .before .before .before .before .before .args .code) (c .before .before .before .before .before .before .before .before .before .args .n)), run-stored _ _ _ _ _ (c .before .before .before .before .before .before .before .before .before .args .code) (c .before .before .before .before .before .before .before .before .before .args .n) (c .before .before .before .before .before .before .put-number .ensures .0) (c .before .before .before .before .before .before .put-number .ensures .1) (c .before .before .put-number2 .ensures .1))
+
+pub put-run-spec : {M : Type 1} → statement M
+put-run-spec =
+    tie.close
+    (tie.spec
+    put-number-requires
+    slice-write-out
+    add-put-number
+    put-number-requires-2
+    same-length
+    returns)

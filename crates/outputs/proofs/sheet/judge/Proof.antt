@@ -1,0 +1,38 @@
+use Rattle.outputs.proofs.Sheets.{picture-refused, picture-wrong, picture-right}
+use mathlib.Core.Path.{sym, _∙_}
+use borrow.Author.Needs.{needs}
+use Rattle.outputs.proofs.sheet.judge.Statement.{statement}
+use Rattle.outputs.proofs.sheet.judge.Tie as tie
+
+check-requires : tie.Need-check-requires
+check-requires c κs = search needs
+
+enum-known-why : tie.Need-enum-known-why
+enum-known-why c = search needs
+
+enum-known-s : tie.Need-enum-known-s
+enum-known-s c = search needs
+
+words-wrong-requires : tie.Need-words-wrong-requires
+words-wrong-requires c κs = search needs
+
+returns : tie.Need-returns
+returns c = picture-wrong _ _ _ _ (c .before .before .before .before .before .check .ensures) _ (c .before .before .before .s .given .1) (sym (c .before .words-wrong .ensures) ∙ c .if1 .taken)
+
+returns-2 : tie.Need-returns-2
+returns-2 c = picture-refused _ _ _ _ (c .before .before .before .check .ensures) _ (c .before .why .given .1)
+
+returns-3 : tie.Need-returns-3
+returns-3 c = picture-right _ _ _ _ (c .before .before .before .before .before .check .ensures) _ (c .before .before .before .s .given .1) (sym (c .before .words-wrong .ensures) ∙ c .if1 .left)
+
+pub judge-spec : {M : Type 1} → statement M
+judge-spec =
+    tie.close
+    (tie.spec
+    check-requires
+    enum-known-why
+    enum-known-s
+    words-wrong-requires
+    returns
+    returns-2
+    returns-3)

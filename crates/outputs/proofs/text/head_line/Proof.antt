@@ -1,0 +1,51 @@
+use Rattle.outputs.proofs.Texts.{marks-are, marks-never}
+use Rattle.outputs.specs.Text.{pictureHead}
+use borrow.Author.Needs.{needs}
+use Rattle.outputs.proofs.text.head_line.Statement.{statement}
+use Rattle.outputs.proofs.text.head_line.Tie as tie
+
+marks-requires : tie.Need-marks-requires
+marks-requires c κs = search needs
+
+enum-known-marks : tie.Need-enum-known-marks
+enum-known-marks c = search needs
+
+cast-put-head : tie.Need-cast-put-head
+cast-put-head c = search needs
+
+cast-put-head-2 : tie.Need-cast-put-head-2
+cast-put-head-2 c = search needs
+
+cast-put-head-3 : tie.Need-cast-put-head-3
+cast-put-head-3 c = search needs
+
+put-head-requires : tie.Need-put-head-requires
+put-head-requires c κs = search needs
+
+enum-told : tie.Need-enum-told
+enum-told c = search needs
+
+same-length : tie.Need-same-length
+same-length c = search needs
+
+returns : tie.Need-returns
+unfolding pictureHead
+returns c = rw (← marks-are (c .before .before .before .before .before .before .before .before .before .before .before .before .before .args .g) (c .before .before .before .before .before .before .before .before .before .before .before .before .before .args .video .now) (c .before .before .before .before .before .before .before .before .before .before .before .before .before .args .cursor .now) (c .before .before .before .before .before .before .before .before .before .before .before .before .before .args .s) (c .before .before .before .before .before .before .before .before .before .before .before .before .before .pre .2) _ _ (c .before .before .before .before .before .before .before .before .before .marks .ensures) (c .before .before .before .before .before .before .before .marks2 .given .1)) (c .before .before .put-head .ensures)
+
+returns-2 : tie.Need-returns-2
+returns-2 c = marks-never (c .before .before .before .before .before .before .args .g) (c .before .before .before .before .before .before .args .video .now) (c .before .before .before .before .before .before .args .cursor .now) (c .before .before .before .before .before .before .args .s) (c .before .before .before .before .before .before .pre .2) _ _ (c .before .before .marks .ensures) (c .enum-told .given .1)
+
+pub head-line-spec : {M : Type 1} → statement M
+head-line-spec =
+    tie.close
+    (tie.spec
+    marks-requires
+    enum-known-marks
+    cast-put-head
+    cast-put-head-2
+    cast-put-head-3
+    put-head-requires
+    enum-told
+    same-length
+    returns
+    returns-2)

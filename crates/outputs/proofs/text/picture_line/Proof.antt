@@ -1,0 +1,50 @@
+use Rattle.buffers.proofs.Puts.{put-nothing}
+use Rattle.outputs.proofs.Texts.{line-head, line-none, line-raster}
+use borrow.Author.Needs.{needs}
+use Rattle.outputs.proofs.text.picture_line.Statement.{statement}
+use Rattle.outputs.proofs.text.picture_line.Tie as tie
+
+head-line-requires : tie.Need-head-line-requires
+head-line-requires c κs = search needs
+
+same-length : tie.Need-same-length
+same-length c = search needs
+
+returns : tie.Need-returns
+returns c = rw (line-head (c .before .before .before .before .before .before .before .before .args .g) (c .before .before .before .before .before .before .before .before .args .video .now) (c .before .before .before .before .before .before .before .before .args .cursor .now) (c .before .before .before .before .before .before .before .before .args .s) (c .before .before .before .before .before .before .before .before .pre .2) _ (c .before .before .before .before .if1 .taken)) (c .before .before .head-line .ensures)
+
+cast-if2 : tie.Need-cast-if2
+cast-if2 c = search needs
+
+returns-2 : tie.Need-returns-2
+returns-2 c = rw (line-none (c .before .before .before .before .before .before .args .g) (c .before .before .before .before .before .before .args .video .now) (c .before .before .before .before .before .before .args .cursor .now) (c .before .before .before .before .before .before .args .s) (c .before .before .before .before .before .before .pre .2) _ (c .before .before .if1 .left) (c .if2 .taken)) (put-nothing _)
+
+sub-t10 : tie.Need-sub-t10
+sub-t10 c = search needs
+
+cast-t13 : tie.Need-cast-t13
+cast-t13 c = search needs
+
+raster-line-requires : tie.Need-raster-line-requires
+raster-line-requires c κs = search needs
+
+same-length-2 : tie.Need-same-length-2
+same-length-2 c = search needs
+
+returns-3 : tie.Need-returns-3
+returns-3 c = rw (line-raster (c .before .before .before .before .before .before .before .before .before .before .args .g) (c .before .before .before .before .before .before .before .before .before .before .args .video .now) (c .before .before .before .before .before .before .before .before .before .before .args .cursor .now) (c .before .before .before .before .before .before .before .before .before .before .args .s) (c .before .before .before .before .before .before .before .before .before .before .pre .2) _ (c .before .before .before .before .before .before .if1 .left) (c .before .before .before .before .if2 .left)) (c .before .before .raster-line .ensures)
+
+pub picture-line-spec : {M : Type 1} → statement M
+picture-line-spec =
+    tie.close
+    (tie.spec
+    head-line-requires
+    same-length
+    returns
+    cast-if2
+    returns-2
+    sub-t10
+    cast-t13
+    raster-line-requires
+    same-length-2
+    returns-3)
