@@ -2,6 +2,7 @@ pub mod Tens
 pub mod Lengths
 pub mod Stored
 pub mod Puts
+pub mod Given
 pub mod Sheets
 pub mod Texts
 pub mod Lines

@@ -1,6 +1,6 @@
--- Laws of the strips: by their tests, and of a plate opened.
+-- Laws of the strips: by their tests, and of what is told of a picture; a refusal has none.
 use Prim.Native.Nat.{ℕ, _*_, _-_, _<_, _≤_}
-use mathlib.Core.Path.{_≡_, refl}
+use mathlib.Core.Path.{_≡_, refl, sym, _∙_, ap}
 use mathlib.Core.List.{List, []}
 use native.Mathlib.Omega.{arith}
 use native.Mathlib.Nat.{sub-zero}
@@ -8,16 +8,16 @@ use lib.ListN.{length, take}
 use borrow.Author.Tests.{lt-leb, le-leb, eq-eqb, ne-eqb}
 use Rattle.buffers.specs.Put.{Put}
 use Rattle.refusals.specs.Table.{Told, given, refused}
-use Rattle.registers.specs.declared.record.Registers.{Registers}
 use Rattle.refusals.specs.declared.Refusal.{Refusal}
+use Rattle.registers.specs.Check.{checkSays}
+use Rattle.registers.specs.declared.record.Registers.{Registers}
 use Rattle.registers.specs.declared.setting.Setting.{Setting}
+use Rattle.registers.specs.declared.check.Checked.{Checked}
 use Rattle.registers.specs.declared.check.Checked.the-variants as checked
 use Rattle.pictures.specs.Colours.{gunsOf, gunsIn}
 use Rattle.pictures.proofs.Stored.{some-room}
-use Rattle.outputs.specs.Sheet.{sheetTold, OpenedFrom}
-use Rattle.outputs.specs.Strip.{stripHead, rasterStrip, pictureStrip, sheetStrip, stripFor, stripAt, stripsFor}
-use Rattle.outputs.specs.declared.sheet.Opened.{Opened}
-use Rattle.outputs.proofs.Texts.{sheet-held, told-sheet}
+use Rattle.outputs.specs.Judged.{pictureTold}
+use Rattle.outputs.specs.Strip.{stripHead, rasterStrip, pictureStrip, stripBy, stripAt, stripsFor}
 
 -- the strips of a picture, by their tests
 module _ (g : Registers) (video cursor : List ℕ) (s : Setting) (k : ℕ) where
@@ -33,15 +33,15 @@ module _ (g : Registers) (video cursor : List ℕ) (s : Setting) (k : ℕ) where
   unfolding pictureStrip
   strip-raster h a = rw (ne-eqb k 0 h, le-leb _ _ a)
 
--- a plate opened, and its strip
-module _ (file words : List ℕ) (k : ℕ) (r : Opened) (o : OpenedFrom file words r) where
-  pub strip-refused : (why : Refusal) → r .checked ≡ checked.Refused why → stripAt file k ≡ []
+-- a picture judged, and its strip
+module _ (g : Registers) (video cursor : List ℕ) (k : ℕ) (x : Checked) (e : checkSays x ≡ pictureTold g video cursor) where
+  pub strip-refused : (why : Refusal) → x ≡ checked.Refused why → stripAt g video cursor k ≡ []
   unfolding stripAt
-  strip-refused why q = rw (← o .says, q)
+  strip-refused why q = rw (← e, q)
 
-  pub strip-sheet : (s : Setting) → r .checked ≡ checked.Accepted s → sheetStrip (r .parts) s words k ≡ stripAt file k
+  pub strip-given : (s : Setting) → x ≡ checked.Accepted s → stripAt g video cursor k ≡ pictureStrip g s video cursor k
   unfolding stripAt
-  strip-sheet s q = let h = sheet-held file words k r o s q in rw (h .video, h .cursor, h .registers, told-sheet file words k r o s q)
+  strip-given s q = rw (← e, q)
 
 -- the first n cells as a part of them, with room for their bytes
 pub part-guns : {o p : List ℕ} {r : ℕ} (n room : ℕ) (cells vs : List ℕ) → take n cells ≡ vs → 3 * length (take (n - 0) cells) ≤ room
@@ -49,10 +49,7 @@ pub part-guns : {o p : List ℕ} {r : ℕ} (n room : ℕ) (cells vs : List ℕ) 
 part-guns n room cells vs e h t = rw (← e, ← sub-zero n, ← some-room room (take (n - 0) cells) h) t
 
 -- past the last strip there is nothing: the whole file is the strips before it, one after the other
-pub no-more-strips : (file : List ℕ) (k : ℕ) → stripsFor (sheetTold file) ≤ k → stripAt file k ≡ []
-unfolding stripAt pictureStrip
-no-more-strips file k h = go (sheetTold file) h
-  where
-    go : (t : Told Setting) → stripsFor t ≤ k → stripFor file k t ≡ []
-    go (given s) h = rw (ne-eqb k 0 (λ e. omega arith), lt-leb k (s .v .0) (omega arith))
-    go (refused w) h = refl
+pub no-more-strips : (g : Registers) (video cursor : List ℕ) (t : Told Setting) (k : ℕ) → stripsFor t ≤ k → stripBy g video cursor t k ≡ []
+unfolding pictureStrip
+no-more-strips g video cursor (given s) k h = rw (ne-eqb k 0 (λ e. omega arith), lt-leb k (s .v .0) (omega arith))
+no-more-strips g video cursor (refused w) k h = refl

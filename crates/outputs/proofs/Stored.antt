@@ -11,7 +11,7 @@ use lib.Seq.{sets, drop-cons, drop-length}
 use Rattle.buffers.proofs.Sets.{sets-append}
 use Rattle.outputs.specs.Decimal.{places, decimal}
 use Rattle.outputs.specs.Runs.{codeOf, run, runsFrom, lineOf}
-use Rattle.outputs.specs.Room.{Stepped, Under}
+use Rattle.outputs.specs.inner.Room.{Stepped, Under}
 use Rattle.outputs.specs.declared.line.Run.{Run}
 use Rattle.outputs.proofs.Lengths.{length-decimal}
 

@@ -1,5 +1,5 @@
--- Laws of a plate's sound: heard or refused, its blocks by their tests, and that the blocks one after the other are the file.
-use Prim.Native.Nat.{ℕ, zero, suc, _+_, _*_, _-_, _/_, _<_, _≤_}
+-- Laws of a sound: its blocks by their tests, and that the blocks one after the other are the file; a refusal has none.
+use Prim.Native.Nat.{ℕ, zero, suc, _+_, _*_, _-_, _/_, _%_, _^_, _<_, _≤_}
 use mathlib.Core.Path.{_≡_, refl, sym, _∙_, ap}
 use mathlib.Core.List.{List, [], _++_, append-nil, append-assoc}
 use mathlib.Core.Logic.{inl, inr}
@@ -11,89 +11,47 @@ use lib.IntN.{ℤ}
 use borrow.Author.Tests.{eq-eqb, ne-eqb}
 use Rattle.buffers.specs.Put.{Put}
 use Rattle.buffers.proofs.Split.{lt-or-le}
-use Rattle.refusals.specs.Table.{Why, Told, given, refused, andThen}
-use Rattle.refusals.specs.Refusals.{refusal, answerSays, whyOf}
+use Rattle.refusals.specs.Table.{Why, Told, given, refused}
+use Rattle.refusals.specs.Refusals.{answerSays, whyOf}
+use Rattle.refusals.specs.declared.Refusal.{Refusal}
+use Rattle.refusals.specs.declared.Answer.{Answer}
+use Rattle.refusals.specs.declared.Answer.the-variants as answer
 use Rattle.registers.specs.Stereo.{frequencyOf}
 use Rattle.registers.specs.Sound.{soundTold}
 use Rattle.registers.specs.declared.record.Registers.{Registers}
-use Rattle.refusals.specs.declared.Refusal.{Refusal}
-use Rattle.refusals.specs.declared.Answer.the-variants as answer
-use Rattle.refusals.proofs.Tables.{never}
 use Rattle.sound.specs.Play.{playLeaves, playedOf}
 use Rattle.sound.specs.Values.{counterAfter}
 use Rattle.sound.proofs.Parts.{length-played, played-none, played-append, playing}
 use Rattle.waves.specs.Head.{waveHead}
 use Rattle.waves.specs.Samples.{samplesOf, samplesIn}
 use Rattle.waves.proofs.Stored.{some-room, samples-append, samples-none}
-use Rattle.outputs.specs.Sheet.{part, registersOf, soundList, takenTold, Held, TakenFrom}
+use Rattle.sheets.specs.Sheet.{part, registersOf, soundList}
+use Rattle.sheets.specs.Input.{inputTold}
+use Rattle.sheets.proofs.Sheets.{few-sounds}
 use Rattle.outputs.specs.Text.{refusedLine}
-use Rattle.outputs.specs.Wave.{waveTold, waveOf, soundBlock, waveBlock, blockFor, blockAt, firstBlocks, waveRefusal, HeardFrom}
-use Rattle.outputs.specs.declared.sheet.Taken.{Taken}
-use Rattle.outputs.proofs.Sheets.{taken-held, few-sounds}
+use Rattle.outputs.specs.Wave.{waveTold, waveBy, waveOf, soundBlock, waveBlock, blockBy, blockAt, firstBlocks, soundRefusal}
+use Rattle.outputs.proofs.Sheets.{wave-refused}
 
--- a plate taken apart and judged for its sound
-module _ (file words : List ℕ) (t : Taken) (k : TakenFrom file words t) (r : Taken) where
-  pub hear-refused : (why : Refusal) → t .answer ≡ answer.Refused why → answerSays (r .answer) ≡ refusal why → HeardFrom file words r
-  unfolding waveTold
-  hear-refused why q c =
-      record {
-        says = c ∙ rw (← k .says, q);
-        held = λ h. never (sym (rw (← k .says, q) at h));
-      }
+-- a record judged for its sound, and its blocks
+module _ (g : Registers) (x : Answer) (e : answerSays x ≡ soundTold g) where
+  pub line-refused : (why : Refusal) → x ≡ answer.Refused why → soundRefusal g ≡ refusedLine (whyOf why)
+  unfolding soundRefusal
+  line-refused why q = rw (← e, q)
 
-  pub hear-judged : t .answer ≡ answer.Done → r .parts ≡ t .parts → answerSays (r .answer) ≡ soundTold (t .parts .registers) → HeardFrom file words r
-  unfolding waveTold
-  hear-judged q e c =
-      let is : takenTold file ≡ given tt = sym (k .says) ∙ ap answerSays q in
-      let h = taken-held file words t k q in
-      record {
-        says = c ∙ rw (is, h .registers);
-        held = λ _. rw e h;
-      }
+  pub line-none : x ≡ answer.Done → soundRefusal g ≡ []
+  unfolding soundRefusal
+  line-none q = rw (← e, q)
 
--- a sound that is given was taken, and its record is accepted
-wave-parts : (file : List ℕ) → waveTold file ≡ given tt → (takenTold file ≡ given tt) × (soundTold (registersOf file) ≡ given tt)
-unfolding waveTold
-wave-parts file e = go (takenTold file) refl e
-  where
-    go : (t : Told (Unit {0})) → takenTold file ≡ t → andThen t (λ _. soundTold (registersOf file)) ≡ given tt
-        → (takenTold file ≡ given tt) × (soundTold (registersOf file) ≡ given tt)
-    go (refused w) q h = never (sym h)
-    go (given u) q h = (q, h)
-
-wave-taken : (file : List ℕ) → waveTold file ≡ given tt → takenTold file ≡ given tt
-wave-taken file e = wave-parts file e .0
-
--- what is heard
-module _ (file words : List ℕ) (r : Taken) (h : HeardFrom file words r) where
-  pub line-refused : (why : Refusal) → r .answer ≡ answer.Refused why → waveRefusal file ≡ refusedLine (whyOf why)
-  unfolding waveRefusal
-  line-refused why q = rw (← h .says, q)
-
-  pub line-heard : r .answer ≡ answer.Done → waveRefusal file ≡ []
-  unfolding waveRefusal
-  line-heard q = rw (← h .says, q)
-
-  pub block-refused : (k : ℕ) (why : Refusal) → r .answer ≡ answer.Refused why → blockAt file k ≡ []
+  pub block-refused : (words : List ℕ) (k : ℕ) (why : Refusal) → x ≡ answer.Refused why → blockAt g words k ≡ []
   unfolding blockAt
-  block-refused k why q = rw (← h .says, q)
+  block-refused words k why q = rw (← e, q)
 
-  module _ (q : r .answer ≡ answer.Done) where
-    heard : waveTold file ≡ given tt
-    heard = sym (h .says) ∙ ap answerSays q
+  pub sound-given : x ≡ answer.Done → soundTold g ≡ given tt
+  sound-given q = sym e ∙ ap answerSays q
 
-    pub heard-held : Held file words (r .parts)
-    heard-held = h .held heard
-
-    pub heard-few : length (part words (r .parts .sound) (r .parts .end)) ≤ 16384
-    heard-few = rw (heard-held .sound) (omega (arith, few-sounds file (wave-taken file heard)))
-
-    pub block-heard : (k : ℕ) → waveBlock (r .parts .registers) (part words (r .parts .sound) (r .parts .end)) k ≡ blockAt file k
-    unfolding blockAt
-    block-heard k = rw (heard-held .registers, heard-held .sound, heard)
-
-    pub heard-sound : soundTold (r .parts .registers) ≡ given tt
-    heard-sound = rw (heard-held .registers) (wave-parts file heard .1)
+  pub block-given : (words : List ℕ) (k : ℕ) → x ≡ answer.Done → blockAt g words k ≡ waveBlock g words k
+  unfolding blockAt
+  block-given words k q = rw (← e, q)
 
 -- the values that a call left in lent memory, taken from its front, as samples with room for them
 module _ (g : Registers) (words : List ℕ) (c : ℕ) (old new : List ℤ) (e : soundTold g ≡ given tt) (leaves : new ≡ playLeaves g words c old)
@@ -110,26 +68,31 @@ module _ (g : Registers) (words : List ℕ) (c : ℕ) (old new : List ℤ) (e : 
       let n = length-played g c words in
       rw (← some-room size (playedOf g c words) (omega (arith, n)), ← values-taken, ← sub-zero (8 * length words)) put
 
+-- past the last word there are no samples
+no-samples : (g : Registers) (words : List ℕ) (k : ℕ) → length words ≤ 256 * k → soundBlock g words k ≡ []
+unfolding soundBlock
+no-samples g words k h = rw (drop-of-length-le words {i = 256 * k} h, played-none g (counterAfter 0 (1024 * k))) samples-none
+
 -- the blocks of some words, by their tests
 module _ (g : Registers) (words : List ℕ) (k : ℕ) where
   pub block-none : length words / 256 < k → soundBlock g words k ≡ []
-  unfolding soundBlock
-  block-none h = rw (drop-of-length-le words {i = 256 * k} (omega arith), played-none g (1024 * k)) samples-none
+  block-none h = no-samples g words k (omega arith)
+
+  counted : 4 * (256 * k) % 2 ^ 32 ≡ counterAfter 0 (1024 * k)
+  counted = ap (λ (n : ℕ). n % 2 ^ 32) (omega arith)
 
   pub block-last : 256 * k ≤ length words → length words - 256 * k < 256
-      → samplesOf (playedOf g (4 * (256 * k)) (part words (256 * k) (length words))) ≡ soundBlock g words k
+      → samplesOf (playedOf g (4 * (256 * k) % 2 ^ 32) (part words (256 * k) (length words))) ≡ soundBlock g words k
   unfolding soundBlock
   block-last a b =
       let n : length (drop (256 * k) words) ≡ length words - 256 * k = length-drop (256 * k) words in
-      let c : 4 * (256 * k) ≡ 1024 * k = omega arith in
-      rw (c, take-all (length words - 256 * k) (drop (256 * k) words) (omega (arith, n)), take-all 256 (drop (256 * k) words) (omega (arith, n)))
+      rw (counted, take-all (length words - 256 * k) (drop (256 * k) words) (omega (arith, n)), take-all 256 (drop (256 * k) words) (omega (arith, n)))
 
-  pub block-whole : samplesOf (playedOf g (4 * (256 * k)) (part words (256 * k) (256 * k + 256))) ≡ soundBlock g words k
+  pub block-whole : samplesOf (playedOf g (4 * (256 * k) % 2 ^ 32) (part words (256 * k) (256 * k + 256))) ≡ soundBlock g words k
   unfolding soundBlock
   block-whole =
-      let c : 4 * (256 * k) ≡ 1024 * k = omega arith in
       let d : 256 * k + 256 - 256 * k ≡ 256 = omega arith in
-      rw (c, d)
+      rw (counted, d)
 
   pub file-head : k ≡ 0 → waveBlock g words k ≡ waveHead (frequencyOf g) (length words)
   unfolding waveBlock
@@ -142,75 +105,73 @@ module _ (g : Registers) (words : List ℕ) (k : ℕ) where
 -- from word 256 k on: a block, then what follows it
 module _ (g : Registers) (words : List ℕ) where
   rest : ℕ → List ℕ
-  rest k = samplesOf (playedOf g (1024 * k) (drop (256 * k) words))
+  rest k = samplesOf (playedOf g (counterAfter 0 (1024 * k)) (drop (256 * k) words))
 
-  split : (k : ℕ) → k < 1000000 → rest k ≡ soundBlock g words k ++ rest (suc k)
+  none-left : (k : ℕ) → length words ≤ 256 * k → rest k ≡ []
+  unfolding rest
+  none-left k h = rw (drop-of-length-le words {i = 256 * k} h, played-none g (counterAfter 0 (1024 * k))) samples-none
+
+  split : (k : ℕ) → rest k ≡ soundBlock g words k ++ rest (suc k)
   unfolding rest soundBlock
-  split k small = elim (lt-or-le (length words) (256 * suc k)) [
+  split k = elim (lt-or-le (length words) (256 * suc k)) [
     | inl l ↦
         rw (
           drop-of-length-le words {i = 256 * suc k} (omega arith),
-          played-none g (1024 * suc k),
+          played-none g (counterAfter 0 (1024 * suc k)),
           samples-none,
           append-nil,
           take-all 256 (drop (256 * k) words) (omega (arith, length-drop (256 * k) words)),
         )
     | inr r ↦
         let from : List ℕ = drop (256 * k) words in
+        let at : ℕ = counterAfter 0 (1024 * k) in
         let t : length (take 256 from) ≡ 256 = length-take-le 256 from (omega (arith, length-drop (256 * k) words)) in
-        let d : drop 256 from ≡ drop (256 * suc k) words = drop-drop 256 (256 * k) words ∙ ap (λ (n : ℕ). drop n words) (let q : 256 * k + 256 ≡ 256 * suc k = omega arith in q) in
-        let c : counterAfter (1024 * k) (4 * length (take 256 from)) ≡ 1024 * suc k = rw t (omega arith) in
-        ap (λ (l : List ℕ). samplesOf (playedOf g (1024 * k) l)) (sym (take-append-drop 256 from))
-        ∙ (ap samplesOf (played-append g (1024 * k) (take 256 from) (drop 256 from) (omega arith)
-        ∙ ap (λ (l : List ℤ). playedOf g (1024 * k) (take 256 from) ++ l) (rw (c, d)))
-        ∙ samples-append (playedOf g (1024 * k) (take 256 from)) (playedOf g (1024 * suc k) (drop (256 * suc k) words)))
+        let q : 256 * k + 256 ≡ 256 * suc k = omega arith in
+        let d : drop 256 from ≡ drop (256 * suc k) words = drop-drop 256 (256 * k) words ∙ ap (λ (n : ℕ). drop n words) q in
+        let c : counterAfter at (4 * length (take 256 from)) ≡ counterAfter 0 (1024 * suc k) = rw t (omega arith) in
+        ap (λ (l : List ℕ). samplesOf (playedOf g at l)) (sym (take-append-drop 256 from))
+        ∙ (ap samplesOf (played-append g at (take 256 from) (drop 256 from) (omega arith)
+        ∙ ap (λ (l : List ℤ). playedOf g at (take 256 from) ++ l) (rw (c, d)))
+        ∙ samples-append (playedOf g at (take 256 from)) (playedOf g (counterAfter 0 (1024 * suc k)) (drop (256 * suc k) words)))
   ]
 
--- the first blocks of a file, where it is not refused and where it is
+  -- the first blocks of a sound that is given
+  abbrev first : ℕ → List ℕ
+  first k = firstBlocks g words (given tt) k
+
+  next-block : (k : ℕ) → waveBlock g words (suc k) ≡ soundBlock g words k
+  next-block k =
+      file-block g words (suc k) (λ q. omega arith) ∙ ap (soundBlock g words) (let q : suc k - 1 ≡ k = omega arith in q)
+
+  blocks-so-far : (k : ℕ) → first (suc k) ++ rest k ≡ waveBy g words (given tt)
+  unfolding firstBlocks waveBlock rest
+  blocks-so-far zero = refl
+  blocks-so-far (suc k) =
+      append-assoc (first (suc k)) (waveBlock g words (suc k)) (rest (suc k))
+      ∙ (ap (λ (l : List ℕ). first (suc k) ++ (l ++ rest (suc k))) (next-block k)
+      ∙ (ap (λ (l : List ℕ). first (suc k) ++ l) (sym (split k)) ∙ blocks-so-far k))
+
+  no-blocks : (w : Why) (k : ℕ) → firstBlocks g words (refused w) k ≡ []
+  unfolding firstBlocks
+  no-blocks w zero = refl
+  no-blocks w (suc k) = rw (no-blocks w k)
+
+  -- What is told of a sound has its blocks, one after the other, as its file, as soon as they are as many as its words ask for.
+  pub sound-blocks : (t : Told (Unit {0})) (k : ℕ) → length words ≤ 256 * k → firstBlocks g words t (suc k) ≡ waveBy g words t
+  sound-blocks (refused w) k h = no-blocks w (suc k)
+  sound-blocks (given u) k h =
+      sym (append-nil (first (suc k))) ∙ (ap (λ (l : List ℕ). first (suc k) ++ l) (sym (none-left k h)) ∙ blocks-so-far k)
+
+  pub no-more-blocks : (t : Told (Unit {0})) (k : ℕ) → length words ≤ 256 * k → blockBy g words t (suc k) ≡ []
+  no-more-blocks (refused w) k h = refl
+  no-more-blocks (given u) k h = next-block k ∙ no-samples g words k h
+
+-- A plate's blocks, one after the other, are its file: the head, and at most 64 of samples.
 module _ (file : List ℕ) where
-  given-head : waveTold file ≡ given tt → blockAt file 0 ≡ waveHead (frequencyOf (registersOf file)) (length (soundList file))
-  unfolding blockAt waveBlock
-  given-head e = rw e
+  blocks-of : (t : Told (Unit {0})) → inputTold file ≡ t → firstBlocks (registersOf file) (soundList file) (waveTold file) 65 ≡ waveOf file
+  unfolding waveOf
+  blocks-of (refused w) e = rw (wave-refused file w e) (no-blocks (registersOf file) (soundList file) w 65)
+  blocks-of (given u) e = sound-blocks (registersOf file) (soundList file) (waveTold file) 64 (omega (arith, few-sounds file e))
 
-  given-block : (k : ℕ) → waveTold file ≡ given tt → blockAt file (suc k) ≡ soundBlock (registersOf file) (soundList file) k
-  unfolding blockAt
-  given-block k e = rw e (file-block (registersOf file) (soundList file) (suc k) (λ q. omega arith)
-      ∙ ap (soundBlock (registersOf file) (soundList file)) (let q : suc k - 1 ≡ k = omega arith in q))
-
-  blocks-so-far : (k : ℕ) → waveTold file ≡ given tt → k < 1000000
-      → firstBlocks file (suc k) ++ rest (registersOf file) (soundList file) k ≡ waveOf file
-  unfolding firstBlocks waveOf rest
-  blocks-so-far zero e h = rw (given-head e, e)
-  blocks-so-far (suc k) e h =
-      append-assoc (firstBlocks file (suc k)) (blockAt file (suc k)) (rest (registersOf file) (soundList file) (suc k))
-      ∙ (ap (λ (l : List ℕ). firstBlocks file (suc k) ++ (l ++ rest (registersOf file) (soundList file) (suc k))) (given-block k e)
-      ∙ (ap (λ (l : List ℕ). firstBlocks file (suc k) ++ l) (sym (split (registersOf file) (soundList file) k (omega arith)))
-      ∙ blocks-so-far k e (omega arith)))
-
-  no-blocks : (w : Why) (k : ℕ) → waveTold file ≡ refused w → firstBlocks file k ≡ []
-  unfolding firstBlocks blockAt
-  no-blocks w zero e = refl
-  no-blocks w (suc k) e = rw (no-blocks w k e, e)
-
-  -- A plate's blocks, one after the other, are its file; past the last of 64 there is none.
-  pub wave-blocks : firstBlocks file 65 ≡ waveOf file
-  unfolding waveOf rest
-  wave-blocks = go (waveTold file) refl
-    where
-      go : (t : Told (Unit {0})) → waveTold file ≡ t → firstBlocks file 65 ≡ waveOf file
-      go (refused w) e = no-blocks w 65 e ∙ rw e
-      go (given u) e =
-          let few = few-sounds file (wave-taken file e) in
-          let none : rest (registersOf file) (soundList file) 64 ≡ [] =
-          rw (drop-of-length-le (soundList file) {i = 256 * 64} (omega (arith, few)), played-none (registersOf file) (1024 * 64)) samples-none in
-          sym (append-nil (firstBlocks file 65)) ∙ (ap (λ (l : List ℕ). firstBlocks file 65 ++ l) (sym none) ∙ blocks-so-far 64 e (omega arith))
-
-  pub no-more-blocks : (k : ℕ) → 65 ≤ k → blockAt file k ≡ []
-  unfolding blockAt waveBlock
-  no-more-blocks k h = go (waveTold file) refl
-    where
-      go : (t : Told (Unit {0})) → waveTold file ≡ t → blockFor file k t ≡ []
-      go (refused w) e = refl
-      go (given u) e =
-          let few = few-sounds file (wave-taken file e) in
-          rw (ne-eqb k 0 (λ q. omega arith)) (block-none (registersOf file) (soundList file) (k - 1) (omega (arith, few)))
+  pub wave-blocks : firstBlocks (registersOf file) (soundList file) (waveTold file) 65 ≡ waveOf file
+  wave-blocks = blocks-of (inputTold file) refl

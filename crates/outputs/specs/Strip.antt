@@ -8,10 +8,11 @@ use Rattle.registers.specs.declared.record.Registers.{Registers}
 use Rattle.registers.specs.declared.setting.Setting.{Setting}
 use Rattle.frame.specs.Frame.{rasterCell}
 use Rattle.pictures.specs.Colours.{gunsOf}
-use Rattle.outputs.specs.Sheet.{part, registersOf, videoList, cursorList, sheetTold}
+use Rattle.sheets.specs.Sheet.{registersOf, videoList, cursorList}
+use Rattle.outputs.specs.Judged.{pictureTold}
+use Rattle.outputs.specs.Sheet.{sheetTold}
 use Rattle.outputs.specs.Text.{pairLine}
 use Rattle.buffers.specs.Values.{valuesFrom}
-use Rattle.outputs.specs.declared.sheet.Parts.{Parts}
 
 -- `P6`, a newline, N, a space, V, a newline, `255`, a newline.
 abbrev pub stripHead : ℕ → ℕ → List ℕ
@@ -27,26 +28,27 @@ pictureStrip g s video cursor k =
     pick (eqb k 0) (stripHead (s .n .0) (s .v .0))
     (pick (leb k (s .v .0)) (rasterStrip g s video cursor (k - 1)) [])
 
--- A refused plate has no picture.
-abbrev pub stripFor : List ℕ → ℕ → Told Setting → List ℕ
-stripFor file k (given s) = pictureStrip (registersOf file) s (videoList file) (cursorList file) k
-stripFor file k (refused w) = []
+-- Strip k of what is told of a picture; a refusal has none.
+abbrev pub stripBy : Registers → List ℕ → List ℕ → Told Setting → ℕ → List ℕ
+stripBy g video cursor (given s) k = pictureStrip g s video cursor k
+stripBy g video cursor (refused w) k = []
 
-unfoldable pub stripAt : List ℕ → ℕ → List ℕ
-stripAt file k = stripFor file k (sheetTold file)
-
--- A strip of an opened plate.
-abbrev pub sheetStrip : Parts → Setting → List ℕ → ℕ → List ℕ
-sheetStrip p s words k = pictureStrip (p .registers) s (part words (p .video) (p .cursor)) (part words (p .cursor) (p .sound)) k
-
--- The whole file: the strips one after the other.
+-- How many strips there are; the whole file is the strips one after the other.
 abbrev pub stripsFor : Told Setting → ℕ
 stripsFor (given s) = 1 + s .v .0
 stripsFor (refused w) = 0
 
-unfoldable pub firstStrips : List ℕ → ℕ → List ℕ
-firstStrips file zero = []
-firstStrips file (suc n) = firstStrips file n ++ stripAt file n
+unfoldable pub firstStrips : Registers → List ℕ → List ℕ → Told Setting → ℕ → List ℕ
+firstStrips g video cursor told zero = []
+firstStrips g video cursor told (suc n) = firstStrips g video cursor told n ++ stripBy g video cursor told n
 
+unfoldable pub pictureBy : Registers → List ℕ → List ℕ → Told Setting → List ℕ
+pictureBy g video cursor told = firstStrips g video cursor told (stripsFor told)
+
+-- A strip of a record and its lists.
+unfoldable pub stripAt : Registers → List ℕ → List ℕ → ℕ → List ℕ
+stripAt g video cursor k = stripBy g video cursor (pictureTold g video cursor) k
+
+-- The picture of a plate file: of its own record and lists, by the printer's order.
 unfoldable pub pictureOf : List ℕ → List ℕ
-pictureOf file = firstStrips file (stripsFor (sheetTold file))
+pictureOf file = pictureBy (registersOf file) (videoList file) (cursorList file) (sheetTold file)

@@ -1,20 +1,20 @@
 -- The printer's text: the head and a line for each raster, or one line that refuses.
-use Prim.Native.Nat.{ℕ, zero, suc, _+_, _-_, _≤_}
-use mathlib.Core.Path.{_≡_}
+use Prim.Native.Nat.{ℕ, zero, suc, _+_, _-_}
 use mathlib.Core.List.{List, [], _∷_, _++_}
 use lib.ListN.{length}
-use lib.Dec.{eqb, leb}
+use lib.Dec.{eqb, ltb, leb}
 use Rattle.buffers.specs.Pick.{pick}
 use Rattle.buffers.specs.Values.{valuesFrom}
-use Rattle.refusals.specs.Table.{Told, given, refused}
+use Rattle.refusals.specs.Table.{Why, Told, given, refused}
 use Rattle.registers.specs.declared.record.Registers.{Registers}
 use Rattle.registers.specs.declared.setting.Setting.{Setting}
 use Rattle.frame.specs.Frame.{rasterCell}
 use Rattle.marks.specs.Marks.{marksOf}
 use Rattle.outputs.specs.Decimal.{decimal}
 use Rattle.outputs.specs.Runs.{lineOf}
-use Rattle.outputs.specs.Sheet.{part, registersOf, videoList, cursorList, pictureTold, sheetTold}
-use Rattle.outputs.specs.declared.sheet.Parts.{Parts}
+use Rattle.sheets.specs.Sheet.{registersOf, videoList, cursorList}
+use Rattle.outputs.specs.Judged.{pictureTold}
+use Rattle.outputs.specs.Sheet.{sheetTold}
 
 -- A number behind some letters.
 unfoldable pub labelled : List ℕ → ℕ → List ℕ
@@ -44,37 +44,40 @@ rasterLine g s video cursor y = lineOf (valuesFrom (rasterCell g s video cursor 
 unfoldable pub pictureHead : Registers → Setting → List ℕ → List ℕ → List ℕ
 pictureHead g s video cursor = headLine (s .n .0) (s .v .0) (length video) (marksOf g s video cursor 128)
 
--- Line k of a plate: 0 is the head; then one for each raster; none after them.
+-- Line k of a picture: 0 is the head; then one for each raster; none after them.
 unfoldable pub pictureLine : Registers → Setting → List ℕ → List ℕ → ℕ → List ℕ
 pictureLine g s video cursor k =
     pick (eqb k 0) (pictureHead g s video cursor)
     (pick (leb k (s .v .0)) (rasterLine g s video cursor (k - 1)) [])
 
-abbrev pub lineFor : List ℕ → ℕ → Told Setting → List ℕ
-lineFor file k (given s) = pictureLine (registersOf file) s (videoList file) (cursorList file) k
-lineFor file k (refused w) = pick (eqb k 0) (refusedLine w) []
-
-unfoldable pub lineAt : List ℕ → ℕ → List ℕ
-lineAt file k = lineFor file k (sheetTold file)
-
--- A line of an opened plate, and what is known of one that is not refused.
-abbrev pub sheetLine : Parts → Setting → List ℕ → ℕ → List ℕ
-sheetLine p s words k = pictureLine (p .registers) s (part words (p .video) (p .cursor)) (part words (p .cursor) (p .sound)) k
-
-pub record Sheet (p : Parts) (s : Setting) (words : List ℕ) : Type 0 where
-  pub video-first : p .video ≤ p .cursor
-  pub cursor-first : p .cursor ≤ p .sound
-  pub inside : p .sound ≤ length words
-  pub told : pictureTold (p .registers) (part words (p .video) (p .cursor)) (part words (p .cursor) (p .sound)) ≡ given s
+-- Line k of what is told of a picture; a refusal is one line.
+abbrev pub lineBy : Registers → List ℕ → List ℕ → Told Setting → ℕ → List ℕ
+lineBy g video cursor (given s) k = pictureLine g s video cursor k
+lineBy g video cursor (refused w) k = pick (eqb k 0) (refusedLine w) []
 
 -- How many lines there are, and the whole text: they stand one after the other.
 abbrev pub linesFor : Told Setting → ℕ
 linesFor (given s) = 1 + s .v .0
 linesFor (refused w) = 1
 
-unfoldable pub firstLines : List ℕ → ℕ → List ℕ
-firstLines file zero = []
-firstLines file (suc n) = firstLines file n ++ lineAt file n
+unfoldable pub firstLines : Registers → List ℕ → List ℕ → Told Setting → ℕ → List ℕ
+firstLines g video cursor told zero = []
+firstLines g video cursor told (suc n) = firstLines g video cursor told n ++ lineBy g video cursor told n
 
+unfoldable pub textBy : Registers → List ℕ → List ℕ → Told Setting → List ℕ
+textBy g video cursor told = firstLines g video cursor told (linesFor told)
+
+-- A line, and the text, of a record and its lists.
+unfoldable pub lineAt : Registers → List ℕ → List ℕ → ℕ → List ℕ
+lineAt g video cursor k = lineBy g video cursor (pictureTold g video cursor) k
+
+unfoldable pub pictureText : Registers → List ℕ → List ℕ → List ℕ
+pictureText g video cursor = textBy g video cursor (pictureTold g video cursor)
+
+-- The text of a plate file: of its own record and lists, by the printer's order.
 unfoldable pub textOf : List ℕ → List ℕ
-textOf file = firstLines file (linesFor (sheetTold file))
+textOf file = textBy (registersOf file) (videoList file) (cursorList file) (sheetTold file)
+
+-- A text in memory of some room: none where not all of it fits.
+unfoldable pub textIn : ℕ → List ℕ → List ℕ
+textIn room text = pick (ltb room (length text)) [] text

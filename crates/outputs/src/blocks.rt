@@ -1,6 +1,4 @@
-// One block of a plate's sound, as a WAV file has it: its head, then the samples of 256 words a block.
-use crate::sheet::Taken;
-use crate::sheet::take;
+// One block of a sound, as a WAV file has it: its head, then the samples of 256 words a block.
 use crate::words::put_refused;
 use registers::record::Registers;
 use refusals::Answer;
@@ -12,33 +10,10 @@ ghost use Rattle.registers.specs.Sound.{soundTold};
 ghost use Rattle.refusals.specs.Table.{given};
 ghost use Rattle.sound.specs.Play.{playedOf};
 ghost use Rattle.waves.specs.Samples.{samplesOf};
-ghost use Rattle.outputs.specs.Wave.{soundBlock, waveBlock, blockAt, waveRefusal, HeardFrom};
+ghost use Rattle.outputs.specs.Wave.{soundBlock, waveBlock, blockAt, soundRefusal};
 
 // How many words a block has.
 const BLOCK: usize = 256;
-
-// A plate taken apart and judged for its sound.
-fn hear(file: &[u8], words: &mut [u32]) -> Taken
-    requires { ⌜ 16384 ≤ length (now words) ⌝ }
-    ensures { λ r. ⌜ HeardFrom (now (file .entry)) (now (words .exit)) r ⌝ }
-{
-    let taken = take(file, words);
-    let answer = taken.answer;
-    let parts = taken.parts;
-    match answer {
-        Answer::Refused(why) => Taken {
-            parts: parts,
-            answer: Answer::Refused(why),
-        },
-        Answer::Done => {
-            let g = parts.registers;
-            Taken {
-                parts: parts,
-                answer: g.check_sound(),
-            }
-        }
-    }
-}
 
 // The samples of at most a block of words.
 fn put_words(out: &mut [u8], g: Registers, words: &[u32], counter: u32) -> usize
@@ -53,7 +28,7 @@ fn put_words(out: &mut [u8], g: Registers, words: &[u32], counter: u32) -> usize
 
 // Block k, from 0, of the words' samples.
 fn sound_block(out: &mut [u8], g: Registers, words: &[u32], k: usize) -> usize
-    requires { ⌜ (4096 ≤ length (now out)) × (length (now words) ≤ 16384) × (soundTold g ≡ given tt) ⌝ }
+    requires { ⌜ (4096 ≤ length (now out)) × (soundTold g ≡ given tt) ⌝ }
     ensures { λ r. ⌜ Put (now (out .entry)) (now (out .exit)) 0 (soundBlock g (now (words .entry)) k) r ⌝ }
 {
     let n = words.len();
@@ -61,7 +36,7 @@ fn sound_block(out: &mut [u8], g: Registers, words: &[u32], k: usize) -> usize
         return 0;
     }
     let start = BLOCK * k;
-    let counter = (4 * start) as u32;
+    let counter = (4 * start % 0x1_0000_0000) as u32;
     if n - start < BLOCK {
         return put_words(out, g, &words[start..n], counter);
     }
@@ -70,43 +45,31 @@ fn sound_block(out: &mut [u8], g: Registers, words: &[u32], k: usize) -> usize
 
 // Block k of the file of a record that sound accepts.
 fn wave_block(out: &mut [u8], g: Registers, words: &[u32], k: usize) -> usize
-    requires { ⌜ (4096 ≤ length (now out)) × (length (now words) ≤ 16384) × (soundTold g ≡ given tt) ⌝ }
+    requires { ⌜ (4096 ≤ length (now out)) × (soundTold g ≡ given tt) ⌝ }
     ensures { λ r. ⌜ Put (now (out .entry)) (now (out .exit)) 0 (waveBlock g (now (words .entry)) k) r ⌝ }
 {
     if k == 0 {
-        return waves::head::head(g.sound_frequency(), words.len() as u16, out);
+        return waves::head::head(g.sound_frequency(), words.len(), out);
     }
     sound_block(out, g, words, k - 1)
 }
 
-// Block k of a plate's sound, and its length: 0 is the head; no bytes past the last block and for a refused plate.
-pub fn block(file: &[u8], k: usize, out: &mut [u8; 4096]) -> usize
-    ensures { λ r. ⌜ Put (now (out .entry)) (now (out .exit)) 0 (blockAt (now (file .entry)) k) r ⌝ }
+// Block k of a sound, and its length: 0 is the head; no bytes past the last block and for a refused sound.
+pub fn block(g: Registers, words: &[u32], k: usize, out: &mut [u8; 4096]) -> usize
+    ensures { λ r. ⌜ Put (now (out .entry)) (now (out .exit)) 0 (blockAt g (now (words .entry)) k) r ⌝ }
 {
-    let mut words = [0u32; 16384];
-    let heard = hear(file, &mut words);
-    let answer = heard.answer;
-    let parts = heard.parts;
-    match answer {
+    match g.check_sound() {
         Answer::Refused(_) => 0,
-        Answer::Done => {
-            let g = parts.registers;
-            let sound = parts.sound;
-            let end = parts.end;
-            wave_block(out, g, &words[sound..end], k)
-        }
+        Answer::Done => wave_block(out, g, words, k),
     }
 }
 
-// The line that refuses a plate's sound, and its length; no bytes where it is not refused.
-pub fn refusal(file: &[u8], out: &mut [u8; 64]) -> usize
-    ensures { λ r. ⌜ Put (now (out .entry)) (now (out .exit)) 0 (waveRefusal (now (file .entry))) r ⌝ }
+// The line that refuses a record's sound, and its length; no bytes where it is not refused.
+pub fn refusal(g: Registers, out: &mut [u8; 64]) -> usize
+    ensures { λ r. ⌜ Put (now (out .entry)) (now (out .exit)) 0 (soundRefusal g) r ⌝ }
 {
-    let mut words = [0u32; 16384];
-    let heard = hear(file, &mut words);
-    let answer = heard.answer;
-    match answer {
-        Answer::Refused(why) => put_refused(out, why.number(), why.detail()),
+    match g.check_sound() {
+        Answer::Refused(why) => put_refused(out, why),
         Answer::Done => 0,
     }
 }

@@ -5,7 +5,7 @@ ghost use Prim.Native.Nat.{_+_, _*_, _<_, _≤_};
 ghost use lib.ListN.{length};
 ghost use lib.Seq.{sets};
 ghost use Rattle.outputs.specs.Runs.{run, lineOf};
-ghost use Rattle.outputs.specs.Room.{Open, Stepped};
+ghost use Rattle.outputs.specs.inner.Room.{Open, Stepped};
 ghost use Rattle.buffers.specs.Put.{Put};
 
 // A run under way: n cells of a code, to be stored from a place on.

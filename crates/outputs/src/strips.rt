@@ -1,6 +1,5 @@
-// One strip of a plate's picture, as a binary PPM file has it: its head, then a strip for each raster.
-use crate::sheet::Parts;
-use crate::sheet::open;
+// One strip of a picture, as a binary PPM file has it: its head, then a strip for each raster.
+use crate::judged::judge;
 use crate::words::put_pair;
 use registers::check::Checked;
 use registers::record::Registers;
@@ -11,11 +10,10 @@ ghost use Prim.Native.Nat.{_<_, _≤_};
 ghost use lib.ListN.{length};
 ghost use Rattle.buffers.specs.Put.{Put};
 ghost use Rattle.refusals.specs.Table.{given};
-ghost use Rattle.outputs.specs.Sheet.{pictureTold};
-ghost use Rattle.outputs.specs.Text.{Sheet};
-ghost use Rattle.outputs.specs.Strip.{rasterStrip, sheetStrip, stripAt};
+ghost use Rattle.outputs.specs.Judged.{pictureTold};
+ghost use Rattle.outputs.specs.Strip.{rasterStrip, pictureStrip, stripAt};
 
-// The bytes of raster y of a plate that is not refused.
+// The bytes of raster y of a picture that is not refused.
 fn raster_strip(
     out: &mut [u8],
     g: Registers,
@@ -33,10 +31,17 @@ fn raster_strip(
     pictures::guns(&cells[0..n], out)
 }
 
-// Strip k of an opened plate.
-fn sheet_strip(out: &mut [u8], parts: Parts, s: Setting, words: &[u32], k: usize) -> usize
-    requires { ⌜ (6144 ≤ length (now out)) × Sheet parts s (now words) ⌝ }
-    ensures { λ r. ⌜ Put (now (out .entry)) (now (out .exit)) 0 (sheetStrip parts s (now (words .entry)) k) r ⌝ }
+// Strip k of a picture that is not refused.
+fn picture_strip(
+    out: &mut [u8],
+    g: Registers,
+    s: Setting,
+    video: &[u32],
+    cursor: &[u32],
+    k: usize,
+) -> usize
+    requires { ⌜ (6144 ≤ length (now out)) × (pictureTold g (now video) (now cursor) ≡ given s) ⌝ }
+    ensures { λ r. ⌜ Put (now (out .entry)) (now (out .exit)) 0 (pictureStrip g s (now (video .entry)) (now (cursor .entry)) k) r ⌝ }
 {
     if k == 0 {
         return put_pair(out, b"P6\n", s.n.0 as u32, s.v.0 as u32, b"\n255\n");
@@ -44,28 +49,21 @@ fn sheet_strip(out: &mut [u8], parts: Parts, s: Setting, words: &[u32], k: usize
     if (s.v.0 as usize) < k {
         return 0;
     }
-    let video = parts.video;
-    let cursor = parts.cursor;
-    let sound = parts.sound;
-    raster_strip(
-        out,
-        parts.registers,
-        s,
-        &words[video..cursor],
-        &words[cursor..sound],
-        Rasters((k - 1) as u16),
-    )
+    raster_strip(out, g, s, video, cursor, Rasters((k - 1) as u16))
 }
 
-// Strip k of a plate's picture, and its length: 0 is the head; no bytes past the last raster and for a refused plate.
-pub fn strip(file: &[u8], k: usize, out: &mut [u8; 6144]) -> usize
-    ensures { λ r. ⌜ Put (now (out .entry)) (now (out .exit)) 0 (stripAt (now (file .entry)) k) r ⌝ }
+// Strip k of a picture, and its length: 0 is the head; no bytes past the last raster and for a refused picture.
+pub fn strip(
+    g: Registers,
+    video: &[u32],
+    cursor: &[u32],
+    k: usize,
+    out: &mut [u8; 6144],
+) -> usize
+    ensures { λ r. ⌜ Put (now (out .entry)) (now (out .exit)) 0 (stripAt g (now (video .entry)) (now (cursor .entry)) k) r ⌝ }
 {
-    let mut words = [0u32; 16384];
-    let opened = open(file, &mut words);
-    let checked = opened.checked;
-    match checked {
+    match judge(g, video, cursor) {
         Checked::Refused(_) => 0,
-        Checked::Accepted(s) => sheet_strip(out, opened.parts, s, &words, k),
+        Checked::Accepted(s) => picture_strip(out, g, s, video, cursor, k),
     }
 }

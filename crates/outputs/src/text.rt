@@ -1,10 +1,11 @@
-// One line of a plate's text.
+// One line of a picture's text.
+use crate::judged::judge;
 use crate::line::put_line;
-use crate::sheet::Parts;
-use crate::sheet::open;
+use crate::words::put_bytes;
 use crate::words::put_head;
 use crate::words::put_refused;
 use marks::answer::Marks;
+use refusals::Refusal;
 use registers::check::Checked;
 use registers::record::Registers;
 use registers::setting::Setting;
@@ -14,15 +15,16 @@ ghost use Prim.Native.Nat.{_<_, _≤_};
 ghost use lib.ListN.{length};
 ghost use Rattle.refusals.specs.Table.{given};
 ghost use Rattle.buffers.specs.Put.{Put};
-ghost use Rattle.outputs.specs.Sheet.{pictureTold};
-ghost use Rattle.outputs.specs.Text.{pictureHead, rasterLine, pictureLine, lineAt, Sheet, sheetLine};
+ghost use Rattle.refusals.specs.Refusals.{whyOf};
+ghost use Rattle.outputs.specs.Judged.{pictureTold};
+ghost use Rattle.outputs.specs.Text.{refusedLine, pictureHead, rasterLine, pictureLine, lineAt, textIn};
 
 // The threshold of the head's mark count.
 const THRESHOLD: u8 = 128;
 
-// The head of a plate that is not refused.
+// The head of a picture that is not refused.
 fn head_line(out: &mut [u8], g: Registers, s: Setting, video: &[u32], cursor: &[u32]) -> usize
-    requires { ⌜ (8256 ≤ length (now out)) × (length (now video) < 65536) × (pictureTold g (now video) (now cursor) ≡ given s) ⌝ }
+    requires { ⌜ (8256 ≤ length (now out)) × (pictureTold g (now video) (now cursor) ≡ given s) ⌝ }
     ensures { λ r. ⌜ Put (now (out .entry)) (now (out .exit)) 0 (pictureHead g s (now (video .entry)) (now (cursor .entry))) r ⌝ }
 {
     match marks::marks(g, video, cursor, THRESHOLD) {
@@ -31,7 +33,7 @@ fn head_line(out: &mut [u8], g: Registers, s: Setting, video: &[u32], cursor: &[
     }
 }
 
-// The line of raster y of a plate that is not refused.
+// The line of raster y of a picture that is not refused.
 fn raster_line(
     out: &mut [u8],
     g: Registers,
@@ -49,7 +51,7 @@ fn raster_line(
     put_line(out, 0, &cells[0..n])
 }
 
-// Line k of a plate that is not refused.
+// Line k of a picture that is not refused.
 fn picture_line(
     out: &mut [u8],
     g: Registers,
@@ -58,7 +60,7 @@ fn picture_line(
     cursor: &[u32],
     k: usize,
 ) -> usize
-    requires { ⌜ (8256 ≤ length (now out)) × (length (now video) < 65536) × (pictureTold g (now video) (now cursor) ≡ given s) ⌝ }
+    requires { ⌜ (8256 ≤ length (now out)) × (pictureTold g (now video) (now cursor) ≡ given s) ⌝ }
     ensures { λ r. ⌜ Put (now (out .entry)) (now (out .exit)) 0 (pictureLine g s (now (video .entry)) (now (cursor .entry)) k) r ⌝ }
 {
     if k == 0 {
@@ -70,38 +72,35 @@ fn picture_line(
     raster_line(out, g, s, video, cursor, Rasters((k - 1) as u16))
 }
 
-// Line k of an opened plate.
-fn sheet_line(out: &mut [u8], parts: Parts, s: Setting, words: &[u32], k: usize) -> usize
-    requires { ⌜ (8256 ≤ length (now out)) × (length (now words) < 65536) × Sheet parts s (now words) ⌝ }
-    ensures { λ r. ⌜ Put (now (out .entry)) (now (out .exit)) 0 (sheetLine parts s (now (words .entry)) k) r ⌝ }
+// Line k of a picture, and its length; no bytes past the last line. Line 0 is the head or the refusal.
+pub fn line(
+    g: Registers,
+    video: &[u32],
+    cursor: &[u32],
+    k: usize,
+    out: &mut [u8; 8256],
+) -> usize
+    ensures { λ r. ⌜ Put (now (out .entry)) (now (out .exit)) 0 (lineAt g (now (video .entry)) (now (cursor .entry)) k) r ⌝ }
 {
-    let video = parts.video;
-    let cursor = parts.cursor;
-    let sound = parts.sound;
-    picture_line(
-        out,
-        parts.registers,
-        s,
-        &words[video..cursor],
-        &words[cursor..sound],
-        k,
-    )
-}
-
-// Line k of the text of a plate file, and its length; no bytes past the last line. Line 0 is the head or the refusal.
-pub fn line(file: &[u8], k: usize, out: &mut [u8; 8256]) -> usize
-    ensures { λ r. ⌜ Put (now (out .entry)) (now (out .exit)) 0 (lineAt (now (file .entry)) k) r ⌝ }
-{
-    let mut words = [0u32; 16384];
-    let opened = open(file, &mut words);
-    let checked = opened.checked;
-    match checked {
+    match judge(g, video, cursor) {
         Checked::Refused(why) => {
             if 0 < k {
                 return 0;
             }
-            put_refused(out, why.number(), why.detail())
+            put_refused(out, why)
         }
-        Checked::Accepted(s) => sheet_line(out, opened.parts, s, &words, k),
+        Checked::Accepted(s) => picture_line(out, g, s, video, cursor, k),
     }
+}
+
+// The line that refuses, and its length; no bytes where it does not fit.
+pub fn refused(why: Refusal, out: &mut [u8]) -> usize
+    ensures { λ r. ⌜ Put (now (out .entry)) (now (out .exit)) 0 (textIn (length (now (out .entry))) (refusedLine (whyOf why))) r ⌝ }
+{
+    let mut line = [0u8; 64];
+    let n = put_refused(&mut line, why);
+    if out.len() < n {
+        return 0;
+    }
+    put_bytes(out, 0, &line[0..n])
 }

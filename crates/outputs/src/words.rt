@@ -1,12 +1,14 @@
 // Letters and labelled numbers in lent memory: the head and the refusal line.
 use crate::number::put_number;
+use refusals::Refusal;
 ghost use Prim.Native.Nat.{_+_, _≤_};
 ghost use lib.ListN.{length};
 ghost use Rattle.buffers.specs.Put.{Put};
+ghost use Rattle.refusals.specs.Refusals.{whyOf};
 ghost use Rattle.outputs.specs.Text.{labelled, pairLine, refusedLine, headLine};
 
 // Letters stored from a place on; the place after them.
-fn put_bytes(out: &mut [u8], at: usize, text: &[u8]) -> usize
+pub fn put_bytes(out: &mut [u8], at: usize, text: &[u8]) -> usize
     requires { ⌜ at + length (now text) ≤ length (now out) ⌝ }
     ensures { λ r. ⌜ Put (now (out .entry)) (now (out .exit)) at (now (text .entry)) r ⌝ }
 {
@@ -41,11 +43,11 @@ pub fn put_pair(out: &mut [u8], label: &[u8], a: u32, b: u32, end: &[u8]) -> usi
 }
 
 // `refused`, number, detail.
-pub fn put_refused(out: &mut [u8], number: u32, detail: u32) -> usize
+pub fn put_refused(out: &mut [u8], why: Refusal) -> usize
     requires { ⌜ 64 ≤ length (now out) ⌝ }
-    ensures { λ r. ⌜ Put (now (out .entry)) (now (out .exit)) 0 (refusedLine number detail) r ⌝ }
+    ensures { λ r. ⌜ Put (now (out .entry)) (now (out .exit)) 0 (refusedLine (whyOf why)) r ⌝ }
 {
-    put_pair(out, b"refused ", number, detail, b"\n")
+    put_pair(out, b"refused ", why.number(), why.detail(), b"\n")
 }
 
 // `frame N V words W marks M`.

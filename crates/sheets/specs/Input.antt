@@ -1,6 +1,6 @@
 -- A plate that comes in on standard input, which may have 65,536 bytes: 15, then 14, 1, 2. There is room for all its words.
 use Prim.Native.Nat.{ℕ}
-use mathlib.Core.List.{List, _∷_}
+use mathlib.Core.List.{List, [], _∷_, _++_}
 use lib.Dec.{ltb}
 use lib.ListN.{length}
 use lib.Seq.{sets}
@@ -13,7 +13,7 @@ abbrev pub mostInput : ℕ
 mostInput = 65536
 
 abbrev pub inputTable : List ℕ → List Row
-inputTable file = row 15 (ltb mostInput (length file)) 0 ∷ plateTable file
+inputTable file = (row 15 (ltb mostInput (length file)) 0 ∷ []) ++ plateTable file
 
 unfoldable pub inputTold : List ℕ → Told (Unit {0})
 inputTold file = judged (inputTable file) tt

@@ -1,7 +1,8 @@
+-- The words' values are played into memory of their own, which is long enough for a block, and taken from its front.
+use native.Mathlib.Omega.{arith}
 use lib.ListN.{length, replicate}
 use lib.IntN.{pos}
 use Rattle.outputs.proofs.Waves.{samples-put}
-use native.Mathlib.Omega.{arith}
 use borrow.Author.Needs.{needs}
 use Rattle.outputs.proofs.blocks.put_words.Statement.{statement}
 use Rattle.outputs.proofs.blocks.put_words.Tie as tie
@@ -31,7 +32,11 @@ same-length : tie.Need-same-length
 same-length c = search needs
 
 returns : tie.Need-returns
-returns c = samples-put (c .before .before .before .before .before .before .before .before .before .before .before .args .g) (c .before .before .before .before .before .before .before .before .before .before .before .args .words .now) (c .before .before .before .before .before .before .before .before .before .before .before .args .counter) (replicate 2048 (pos 0)) _ (c .before .before .before .before .before .before .before .before .before .before .before .pre .2) (c .before .before .before .before .before .before .before .play .ensures .2) (omega (arith, c .before .before .before .before .before .before .before .before .before .before .before .pre .1)) (length (c .before .before .before .before .before .before .before .before .before .before .before .args .out .now)) (omega (arith, c .before .before .before .before .before .before .before .before .before .before .before .pre .0, c .before .before .before .before .before .before .before .before .before .before .before .pre .1)) (c .before .before .samples .ensures)
+returns c =
+    let s = c .before .before .before .before .before .before .before .before .before .before .before in
+    let few = s .pre .1 in
+    samples-put (s .args .g) (s .args .words .now) (s .args .counter) (replicate 2048 (pos 0)) _ (s .pre .2) (c .before .before .before .before .before .before .before .play .ensures .2) (omega (arith, few))
+    (length (s .args .out .now)) (omega (arith, s .pre .0, few)) (c .before .before .samples .ensures)
 
 pub put-words-spec : {M : Type 1} → statement M
 put-words-spec =

@@ -1,12 +1,15 @@
-use Rattle.outputs.proofs.Waves.{block-none, block-last, block-whole}
-use Rattle.buffers.proofs.Puts.{put-nothing}
+-- A block past the last word is none; the last may be short, and any other has 256 words.
 use native.Mathlib.Omega.{arith}
+use Rattle.buffers.proofs.Puts.{put-nothing}
+use Rattle.outputs.proofs.Waves.{block-none, block-last, block-whole}
 use borrow.Author.Needs.{needs}
 use Rattle.outputs.proofs.blocks.sound_block.Statement.{statement}
 use Rattle.outputs.proofs.blocks.sound_block.Tie as tie
 
 returns : tie.Need-returns
-returns c = rw (block-none (c .before .before .before .args .g) (c .before .before .before .args .words .now) (c .before .before .before .args .k) (c .if1 .taken)) (put-nothing _)
+returns c =
+    let a = c .before .before .before .args in
+    rw (block-none (a .g) (a .words .now) (a .k) (c .if1 .taken)) (put-nothing _)
 
 mul-start : tie.Need-mul-start
 mul-start c = search needs
@@ -39,7 +42,9 @@ same-length : tie.Need-same-length
 same-length c = search needs
 
 returns-2 : tie.Need-returns-2
-returns-2 c = rw (← block-last (c .before .before .before .before .before .before .before .before .before .args .g) (c .before .before .before .before .before .before .before .before .before .args .words .now) (c .before .before .before .before .before .before .before .before .before .args .k) (omega (arith, c .before .before .before .before .before .before .if1 .left)) (c .before .before .before .before .before .if2 .taken)) (c .before .before .put-words .ensures)
+returns-2 c =
+    let a = c .before .before .before .before .before .before .before .before .before .args in
+    rw (← block-last (a .g) (a .words .now) (a .k) (omega (arith, c .before .before .before .before .before .before .if1 .left)) (c .before .before .before .before .before .if2 .taken)) (c .before .before .put-words .ensures)
 
 add-put-words : tie.Need-add-put-words
 add-put-words c = search needs
@@ -63,7 +68,9 @@ same-length-2 : tie.Need-same-length-2
 same-length-2 c = search needs
 
 returns-3 : tie.Need-returns-3
-returns-3 c = rw (← block-whole (c .before .before .before .before .before .before .before .before .before .args .g) (c .before .before .before .before .before .before .before .before .before .args .words .now) (c .before .before .before .before .before .before .before .before .before .args .k)) (c .before .before .put-words2 .ensures)
+returns-3 c =
+    let a = c .before .before .before .before .before .before .before .before .before .args in
+    rw (← block-whole (a .g) (a .words .now) (a .k)) (c .before .before .put-words2 .ensures)
 
 pub sound-block-spec : {M : Type 1} → statement M
 sound-block-spec =

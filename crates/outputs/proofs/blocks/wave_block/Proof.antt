@@ -1,5 +1,6 @@
-use Rattle.waves.proofs.Heads.{some-head}
+-- Block 0 is the head, for which there is room, and any other a block of samples.
 use lib.ListN.{length}
+use Rattle.waves.proofs.Heads.{some-head}
 use Rattle.outputs.proofs.Waves.{file-head, file-block}
 use borrow.Author.Needs.{needs}
 use Rattle.outputs.proofs.blocks.wave_block.Statement.{statement}
@@ -8,9 +9,6 @@ use Rattle.outputs.proofs.blocks.wave_block.Tie as tie
 sound-frequency-requires : tie.Need-sound-frequency-requires
 sound-frequency-requires c κs = search needs
 
-cast-head : tie.Need-cast-head
-cast-head c = search needs
-
 head-requires : tie.Need-head-requires
 head-requires c κs = search needs
 
@@ -18,7 +16,10 @@ same-length : tie.Need-same-length
 same-length c = search needs
 
 returns : tie.Need-returns
-returns c = rw (file-head _ _ (c .before .before .before .before .before .before .before .before .args .k) (c .before .before .before .before .before .if1 .taken), ← c .before .before .before .before .sound-frequency .ensures, ← some-head (length (c .before .before .before .before .before .before .before .before .args .out .now)) (c .before .before .before .before .sound-frequency .result) (length (c .before .before .before .before .before .before .before .before .args .words .now)) (search needs)) (c .before .before .head .ensures)
+returns c =
+    let s = c .before .before .before .before .before .before .before .before in
+    rw (file-head (s .args .g) (s .args .words .now) (s .args .k) (c .before .before .before .before .before .if1 .taken), ← some-head (length (s .args .out .now)) _ _ (search needs), ← c .before .before .before .before .sound-frequency .ensures)
+    (c .before .before .head .ensures)
 
 sub-sound-block : tie.Need-sub-sound-block
 sub-sound-block c = search needs
@@ -30,14 +31,15 @@ same-length-2 : tie.Need-same-length-2
 same-length-2 c = search needs
 
 returns-2 : tie.Need-returns-2
-returns-2 c = rw (file-block _ _ (c .before .before .before .before .before .before .before .args .k) (c .before .before .before .before .if1 .left)) (c .before .before .sound-block .ensures)
+returns-2 c =
+    let a = c .before .before .before .before .before .before .before .args in
+    rw (file-block (a .g) (a .words .now) (a .k) (c .before .before .before .before .if1 .left)) (c .before .before .sound-block .ensures)
 
 pub wave-block-spec : {M : Type 1} → statement M
 wave-block-spec =
     tie.close
     (tie.spec
     sound-frequency-requires
-    cast-head
     head-requires
     same-length
     returns

@@ -3,7 +3,7 @@ use mathlib.Core.Path.{_∙_}
 use borrow.Author.Needs.{needs}
 use Rattle.outputs.proofs.Stored.{first-run, one-more, line-stored, line-length}
 use Rattle.outputs.proofs.Lengths.{run-fits}
-use Rattle.outputs.specs.Room.{Under}
+use Rattle.outputs.specs.inner.Room.{Under}
 use lib.ListN.{length}
 use native.Mathlib.Omega.{arith}
 use mathlib.Core.Path.{refl}

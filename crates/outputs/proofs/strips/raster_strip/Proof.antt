@@ -1,9 +1,10 @@
+-- The raster is painted into cells of its own, and its strip is that of its first N cells.
 use Prim.Native.Nat.{_-_}
-use lib.Seq.{length-take-le}
 use native.Mathlib.Omega.{arith}
+use lib.Seq.{length-take-le}
 use Rattle.outputs.specs.Strip.{rasterStrip}
+use Rattle.outputs.proofs.Given.{picture-accepted, raster-values}
 use Rattle.outputs.proofs.Pictures.{part-guns}
-use Rattle.outputs.proofs.Texts.{picture-accepted, raster-values}
 use borrow.Author.Needs.{needs}
 use Rattle.outputs.proofs.strips.raster_strip.Statement.{statement}
 use Rattle.outputs.proofs.strips.raster_strip.Tie as tie
@@ -24,7 +25,10 @@ part-guns-start : tie.Need-part-guns-start
 part-guns-start c = search needs
 
 part-guns-end : tie.Need-part-guns-end
-part-guns-end c = let a = picture-accepted (c .before .before .before .before .before .before .before .before .args .g) (c .before .before .before .before .before .before .before .before .args .video .now) (c .before .before .before .before .before .before .before .before .args .cursor .now) (c .before .before .before .before .before .before .before .before .args .s) (c .before .before .before .before .before .before .before .before .pre .2) in omega (arith, a .n-most, c .before .before .before .raster .kept .1 .1 .1 .1 .0)
+part-guns-end c =
+    let s = c .before .before .before .before .before .before .before .before in
+    let a = picture-accepted (s .args .g) (s .args .video .now) (s .args .cursor .now) (s .args .s) (s .pre .2) in
+    omega (arith, a .n-most, c .before .before .before .raster .kept .1 .1 .1 .1 .0)
 
 guns-requires : tie.Need-guns-requires
 guns-requires c κs = search needs
@@ -34,7 +38,16 @@ same-length c = search needs
 
 returns : tie.Need-returns
 unfolding rasterStrip
-returns c = let a = picture-accepted (c .before .before .before .before .before .before .before .before .before .before .before .before .before .args .g) (c .before .before .before .before .before .before .before .before .before .before .before .before .before .args .video .now) (c .before .before .before .before .before .before .before .before .before .before .before .before .before .args .cursor .now) (c .before .before .before .before .before .before .before .before .before .before .before .before .before .args .s) (c .before .before .before .before .before .before .before .before .before .before .before .before .before .pre .2) in let k = c .before .before .before .before .before .before .before .before .raster .kept .1 .1 .1 .1 .0 in let n = c .before .before .before .before .before .before .before .before .before .before .before .before .before .args .s .n .0 in let cells = c .before .before .before .before .before .before .before .before .raster .last .1 .1 .1 .1 .0 in part-guns n _ cells _ (raster-values (c .before .before .before .before .before .before .before .before .before .before .before .before .before .args .g) (c .before .before .before .before .before .before .before .before .before .before .before .before .before .args .video .now) (c .before .before .before .before .before .before .before .before .before .before .before .before .before .args .cursor .now) (c .before .before .before .before .before .before .before .before .before .before .before .before .before .args .s) (c .before .before .before .before .before .before .before .before .before .before .before .before .before .pre .2) (c .before .before .before .before .before .before .before .before .before .before .before .before .before .args .y .0) _ cells (c .before .before .before .before .before .before .before .before .before .before .before .before .before .pre .1) (omega (arith, a .n-most, k)) (c .before .before .before .before .before .before .before .before .raster .ensures .1)) (omega (arith, a .n-most, k, length-take-le (n - 0) cells (omega (arith, a .n-most, k)), c .before .before .before .before .before .before .before .before .before .before .before .before .before .pre .0)) (c .before .before .guns .ensures)
+returns c =
+    let s = c .before .before .before .before .before .before .before .before .before .before .before .before .before in
+    let a = picture-accepted (s .args .g) (s .args .video .now) (s .args .cursor .now) (s .args .s) (s .pre .2) in
+    let r = c .before .before .before .before .before .before .before .before .raster in
+    let k = r .kept .1 .1 .1 .1 .0 in
+    let n = s .args .s .n .0 in
+    let cells = r .last .1 .1 .1 .1 .0 in
+    let values = raster-values (s .args .g) (s .args .video .now) (s .args .cursor .now) (s .args .s) (s .pre .2) (s .args .y .0) _ cells
+    (s .pre .1) (omega (arith, a .n-most, k)) (r .ensures .1) in
+    part-guns n _ cells _ values (omega (arith, a .n-most, k, length-take-le (n - 0) cells (omega (arith, a .n-most, k)), s .pre .0)) (c .before .before .guns .ensures)
 
 pub raster-strip-spec : {M : Type 1} → statement M
 raster-strip-spec =

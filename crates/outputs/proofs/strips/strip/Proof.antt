@@ -1,43 +1,36 @@
+-- A refused picture has no strip; any other's are those of its setting.
 use Rattle.buffers.proofs.Puts.{put-nothing}
-use Rattle.outputs.proofs.Pictures.{strip-refused, strip-sheet}
-use Rattle.outputs.proofs.Texts.{sheet-known}
+use Rattle.outputs.proofs.Texts.{judged-given}
+use Rattle.outputs.proofs.Pictures.{strip-refused, strip-given}
 use borrow.Author.Needs.{needs}
 use Rattle.outputs.proofs.strips.strip.Statement.{statement}
 use Rattle.outputs.proofs.strips.strip.Tie as tie
 
-slice-aggregate-open : tie.Need-slice-aggregate-open
-slice-aggregate-open c = search needs
-
-open-requires : tie.Need-open-requires
-open-requires c κs = search needs
+judge-requires : tie.Need-judge-requires
+judge-requires c κs = search needs
 
 enum-told : tie.Need-enum-told
 enum-told c = search needs
 
-enum-known-checked : tie.Need-enum-known-checked
-enum-known-checked c = search needs
+enum-known-s : tie.Need-enum-known-s
+enum-known-s c = search needs
 
-slice-aggregate-sheet-strip : tie.Need-slice-aggregate-sheet-strip
-slice-aggregate-sheet-strip c = search needs
-
-sheet-strip-requires : tie.Need-sheet-strip-requires
-sheet-strip-requires c κs = (search needs, sheet-known (c .before .before .before .before .before .before .before .before .before .args .file .now) _ (c .before .before .before .before .before .before .before .before .before .args .k) _ (c .before .before .before .before .before .before .«open» .ensures) _ (c .before .before .before .checked .given .1))
+picture-strip-requires : tie.Need-picture-strip-requires
+picture-strip-requires c κs =
+    let a = c .before .before .before .before .before .before .before .args in
+    (search needs, judged-given (a .g) (a .video .now) (a .cursor .now) (a .k) _ (c .before .before .before .before .judge .ensures) _ (c .before .before .s .given .1))
 
 returns : tie.Need-returns
-returns c = rw (strip-refused (c .before .before .before .before .before .before .args .file .now) _ (c .before .before .before .before .before .before .args .k) _ (c .before .before .before .«open» .ensures) _ (c .enum-told .given .1)) (put-nothing _)
+returns c =
+    let a = c .before .before .before .before .before .args in
+    rw (strip-refused (a .g) (a .video .now) (a .cursor .now) (a .k) _ (c .before .before .judge .ensures) _ (c .enum-told .given .1)) (put-nothing _)
 
 returns-2 : tie.Need-returns-2
-returns-2 c = rw (← strip-sheet (c .before .before .before .before .before .before .before .before .before .before .args .file .now) _ (c .before .before .before .before .before .before .before .before .before .before .args .k) _ (c .before .before .before .before .before .before .before .«open» .ensures) _ (c .before .before .before .before .checked .given .1)) (c .sheet-strip .ensures)
+returns-2 c =
+    let a = c .before .before .before .before .before .before .before .before .args in
+    rw (strip-given (a .g) (a .video .now) (a .cursor .now) (a .k) _ (c .before .before .before .before .before .judge .ensures) _ (c .before .before .before .s .given .1)) (c .picture-strip .ensures)
 
 pub strip-spec : {M : Type 1} → statement M
 strip-spec =
     tie.close
-    (tie.spec
-    slice-aggregate-open
-    open-requires
-    enum-told
-    enum-known-checked
-    slice-aggregate-sheet-strip
-    sheet-strip-requires
-    returns
-    returns-2)
+    (tie.spec judge-requires enum-told enum-known-s picture-strip-requires returns returns-2)

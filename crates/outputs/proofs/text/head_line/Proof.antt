@@ -1,5 +1,8 @@
-use Rattle.outputs.proofs.Texts.{marks-are, marks-never}
+-- A picture that is not refused has a mark count, and no more words than a number of ten digits tells.
+use native.Mathlib.Omega.{arith}
+use mir.Facts.{fits-of-lt}
 use Rattle.outputs.specs.Text.{pictureHead}
+use Rattle.outputs.proofs.Given.{few-video, marks-are, marks-never}
 use borrow.Author.Needs.{needs}
 use Rattle.outputs.proofs.text.head_line.Statement.{statement}
 use Rattle.outputs.proofs.text.head_line.Tie as tie
@@ -17,7 +20,9 @@ cast-put-head-2 : tie.Need-cast-put-head-2
 cast-put-head-2 c = search needs
 
 cast-put-head-3 : tie.Need-cast-put-head-3
-cast-put-head-3 c = search needs
+cast-put-head-3 c =
+    let s = c .before .before .before .before .before .before .before .before .before .before in
+    fits-of-lt (omega (arith, few-video (s .args .g) (s .args .video .now) (s .args .cursor .now) (s .args .s) (s .pre .1)))
 
 put-head-requires : tie.Need-put-head-requires
 put-head-requires c κs = search needs
@@ -30,10 +35,15 @@ same-length c = search needs
 
 returns : tie.Need-returns
 unfolding pictureHead
-returns c = rw (← marks-are (c .before .before .before .before .before .before .before .before .before .before .before .before .before .args .g) (c .before .before .before .before .before .before .before .before .before .before .before .before .before .args .video .now) (c .before .before .before .before .before .before .before .before .before .before .before .before .before .args .cursor .now) (c .before .before .before .before .before .before .before .before .before .before .before .before .before .args .s) (c .before .before .before .before .before .before .before .before .before .before .before .before .before .pre .2) _ _ (c .before .before .before .before .before .before .before .before .before .marks .ensures) (c .before .before .before .before .before .before .before .marks2 .given .1)) (c .before .before .put-head .ensures)
+returns c =
+    let s = c .before .before .before .before .before .before .before .before .before .before .before .before .before in
+    let are = marks-are (s .args .g) (s .args .video .now) (s .args .cursor .now) (s .args .s) (s .pre .1) _ _ (c .before .before .before .before .before .before .before .before .before .marks .ensures) (c .before .before .before .before .before .before .before .marks2 .given .1) in
+    rw (← are) (c .before .before .put-head .ensures)
 
 returns-2 : tie.Need-returns-2
-returns-2 c = marks-never (c .before .before .before .before .before .before .args .g) (c .before .before .before .before .before .before .args .video .now) (c .before .before .before .before .before .before .args .cursor .now) (c .before .before .before .before .before .before .args .s) (c .before .before .before .before .before .before .pre .2) _ _ (c .before .before .marks .ensures) (c .enum-told .given .1)
+returns-2 c =
+    let s = c .before .before .before .before .before .before in
+    marks-never (s .args .g) (s .args .video .now) (s .args .cursor .now) (s .args .s) (s .pre .1) _ _ (c .before .before .marks .ensures) (c .enum-told .given .1)
 
 pub head-line-spec : {M : Type 1} → statement M
 head-line-spec =

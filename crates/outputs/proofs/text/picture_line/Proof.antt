@@ -1,3 +1,4 @@
+-- Line 0 is the head, a line past the last is none, and any other is a raster's.
 use Rattle.buffers.proofs.Puts.{put-nothing}
 use Rattle.outputs.proofs.Texts.{line-head, line-none, line-raster}
 use borrow.Author.Needs.{needs}
@@ -11,13 +12,17 @@ same-length : tie.Need-same-length
 same-length c = search needs
 
 returns : tie.Need-returns
-returns c = rw (line-head (c .before .before .before .before .before .before .before .before .args .g) (c .before .before .before .before .before .before .before .before .args .video .now) (c .before .before .before .before .before .before .before .before .args .cursor .now) (c .before .before .before .before .before .before .before .before .args .s) (c .before .before .before .before .before .before .before .before .pre .2) _ (c .before .before .before .before .if1 .taken)) (c .before .before .head-line .ensures)
+returns c =
+    let a = c .before .before .before .before .before .before .before .before .args in
+    rw (line-head (a .g) (a .video .now) (a .cursor .now) (a .s) (a .k) (c .before .before .before .before .if1 .taken)) (c .before .before .head-line .ensures)
 
 cast-if2 : tie.Need-cast-if2
 cast-if2 c = search needs
 
 returns-2 : tie.Need-returns-2
-returns-2 c = rw (line-none (c .before .before .before .before .before .before .args .g) (c .before .before .before .before .before .before .args .video .now) (c .before .before .before .before .before .before .args .cursor .now) (c .before .before .before .before .before .before .args .s) (c .before .before .before .before .before .before .pre .2) _ (c .before .before .if1 .left) (c .if2 .taken)) (put-nothing _)
+returns-2 c =
+    let a = c .before .before .before .before .before .before .args in
+    rw (line-none (a .g) (a .video .now) (a .cursor .now) (a .s) (a .k) (c .before .before .if1 .left) (c .if2 .taken)) (put-nothing _)
 
 sub-t10 : tie.Need-sub-t10
 sub-t10 c = search needs
@@ -32,7 +37,9 @@ same-length-2 : tie.Need-same-length-2
 same-length-2 c = search needs
 
 returns-3 : tie.Need-returns-3
-returns-3 c = rw (line-raster (c .before .before .before .before .before .before .before .before .before .before .args .g) (c .before .before .before .before .before .before .before .before .before .before .args .video .now) (c .before .before .before .before .before .before .before .before .before .before .args .cursor .now) (c .before .before .before .before .before .before .before .before .before .before .args .s) (c .before .before .before .before .before .before .before .before .before .before .pre .2) _ (c .before .before .before .before .before .before .if1 .left) (c .before .before .before .before .if2 .left)) (c .before .before .raster-line .ensures)
+returns-3 c =
+    let a = c .before .before .before .before .before .before .before .before .before .before .args in
+    rw (line-raster (a .g) (a .video .now) (a .cursor .now) (a .s) (a .k) (c .before .before .before .before .before .before .if1 .left) (c .before .before .before .before .if2 .left)) (c .before .before .raster-line .ensures)
 
 pub picture-line-spec : {M : Type 1} → statement M
 picture-line-spec =

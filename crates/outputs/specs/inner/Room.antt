@@ -1,4 +1,4 @@
--- What one step of the run printer keeps.
+-- What one step of the run printer keeps: its functions use this among themselves, and no public promise reaches it.
 use Prim.Native.Nat.{ℕ, _+_, _*_, _<_, _≤_}
 use mathlib.Core.Path.{_≡_}
 use mathlib.Core.List.{List, _∷_}

@@ -1,8 +1,8 @@
-use Rattle.outputs.proofs.Sheets.{picture-refused, picture-wrong, picture-right}
+use Rattle.outputs.proofs.Given.{picture-refused, picture-wrong, picture-right}
 use mathlib.Core.Path.{sym, _∙_}
 use borrow.Author.Needs.{needs}
-use Rattle.outputs.proofs.sheet.judge.Statement.{statement}
-use Rattle.outputs.proofs.sheet.judge.Tie as tie
+use Rattle.outputs.proofs.judged.judge.Statement.{statement}
+use Rattle.outputs.proofs.judged.judge.Tie as tie
 
 check-requires : tie.Need-check-requires
 check-requires c κs = search needs
