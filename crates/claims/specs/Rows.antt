@@ -14,7 +14,6 @@ use Rattle.registers.specs.declared.record.Registers.{Registers}
 use Rattle.frame.specs.Frame.{wordsWrong, frameTable, rasterTable}
 use Rattle.stretch.specs.Stretch.{stretchTable}
 use Rattle.plates.specs.Plate.{mostBytes, right, rOf, plateLength}
-use Rattle.outputs.specs.Sheet.{mostInput, registerWords, videoList, cursorList, registersOf}
 
 -- Loading one word alone.
 abbrev pub wordRows : ℕ → List Row
@@ -50,13 +49,3 @@ copyRows file places = row 14 (not (right file)) 0 ∷ row 13 (ltb places (rOf f
 abbrev pub writeRows : List ℕ → List ℕ → List ℕ → List ℕ → ℕ → List Row
 writeRows rs vs cs ss places =
     row 15 (ltb mostBytes (plateLength rs vs cs ss)) 0 ∷ row 13 (ltb places (plateLength rs vs cs ss)) 0 ∷ []
-
--- A plate taken apart: 15, 14, 1, 2; printed: 3 to 9, 11 after them; played: 3, 10 after them.
-abbrev pub takenRows : List ℕ → List Row
-takenRows file = row 15 (ltb mostInput (length file)) 0 ∷ row 14 (not (right file)) 0 ∷ loadTable (registerWords file)
-
-abbrev pub sheetRows : List ℕ → List Row
-sheetRows file = takenRows file ++ marksRows (registersOf file) (videoList file) (cursorList file)
-
-abbrev pub waveRows : List ℕ → List Row
-waveRows file = takenRows file ++ soundTable (registersOf file)

@@ -207,3 +207,18 @@ module _ (file o new : List ℕ) (z : Taken)
       let p : z .parts ≡ partsOf file = t .1 ∙ rw g in
       let n : new ≡ sets o 0 (copied file) = t .2 ∙ rw g in
       rw (p, n) (held file o (input-right file g) (omega (arith, few-words file g)))
+
+  -- what a caller that lends its words on needs: there are as many as before, and the lists are in order
+  pub input-length : length new ≡ length o
+  input-length = go (inputTold file) (t .2)
+    where
+      go : (u : Told (Unit {0})) → new ≡ unlessRefused u o (sets o 0 (copied file)) → length new ≡ length o
+      go (given _) e = ap length e ∙ length-sets o 0 (copied file)
+      go (refused w) e = ap length e
+
+  module _ (room : 16384 ≤ length o) (q : z .answer ≡ answer.Done) where
+    pub input-lists : (z .parts .video ≤ z .parts .cursor) × (z .parts .cursor ≤ z .parts .sound) × (z .parts .sound ≤ length new)
+    input-lists = let h = input-held room q in (h .video-first, h .cursor-first, omega (arith, h .sound-first, h .inside))
+
+    pub input-sounds : (z .parts .sound ≤ z .parts .end) × (z .parts .end ≤ length new)
+    input-sounds = let h = input-held room q in (h .sound-first, h .inside)

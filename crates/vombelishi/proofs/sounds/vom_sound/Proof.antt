@@ -44,7 +44,7 @@ returns-2 c =
     let made = c .before .before .before .before .before .before .before .before .record-of .ensures in
     let play = c .before .before .before .before .before .play in
     sound-refused (args .values .now) (args .written .now) (args .words .now) (args .counter .now) (args .out .now) _ _ _
-    is made (play .ensures .0) (play .ensures .2) _ _ _ (ap answerSays (c .before .before .answer .given .1)) (c .refused .ensures)
+    is made (play .ensures .0) (play .ensures .2) _ _ (ap answerSays (c .before .before .answer .given .1)) (c .refused .ensures)
 
 same-length-2 : tie.Need-same-length-2
 same-length-2 c = search needs
