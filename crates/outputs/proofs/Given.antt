@@ -51,9 +51,10 @@ module _ (g : Registers) (video cursor : List ℕ) (s : Setting) (e : pictureTol
   picture-parts =
       let p = given-passes (settingOf g) (pictureTable g video cursor) s e in
       let q : settingOf g ≡ s = p .1 in
-      let wrong : wordsWrong (settingOf g) video cursor ≡ false = passed 11 (pictureTable g video cursor) (p .0) in
-      (passes-given (settingOf g) (settingTable g) (passes-first (settingTable g) (row 11 (wordsWrong (settingOf g) video cursor) 0 ∷ []) (p .0)) ∙ ap given q,
-      sym (ap (λ (x : Setting). wordsWrong x video cursor) q) ∙ wrong)
+      let wrong : wordsWrong (settingOf g) video cursor ≡ false = passed 11 (pictureTable g video cursor) (p .0) in (
+        passes-given (settingOf g) (settingTable g) (passes-first (settingTable g) (row 11 (wordsWrong (settingOf g) video cursor) 0 ∷ []) (p .0)) ∙ ap given q,
+        sym (ap (λ (x : Setting). wordsWrong x video cursor) q) ∙ wrong,
+      )
 
   pub picture-accepted : Accepted s
   picture-accepted = accepted g s (picture-parts .0)

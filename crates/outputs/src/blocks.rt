@@ -1,7 +1,7 @@
 // One block of a sound, as a WAV file has it: its head, then the samples of 256 words a block.
 use crate::words::put_refused;
-use registers::record::Registers;
 use refusals::Answer;
+use registers::record::Registers;
 ghost use mathlib.Core.Path.{_≡_};
 ghost use Prim.Native.Nat.{_≤_};
 ghost use lib.ListN.{length};

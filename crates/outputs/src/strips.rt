@@ -53,13 +53,7 @@ fn picture_strip(
 }
 
 // Strip k of a picture, and its length: 0 is the head; no bytes past the last raster and for a refused picture.
-pub fn strip(
-    g: Registers,
-    video: &[u32],
-    cursor: &[u32],
-    k: usize,
-    out: &mut [u8; 6144],
-) -> usize
+pub fn strip(g: Registers, video: &[u32], cursor: &[u32], k: usize, out: &mut [u8; 6144]) -> usize
     ensures { λ r. ⌜ Put (now (out .entry)) (now (out .exit)) 0 (stripAt g (now (video .entry)) (now (cursor .entry)) k) r ⌝ }
 {
     match judge(g, video, cursor) {

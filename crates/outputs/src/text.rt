@@ -73,13 +73,7 @@ fn picture_line(
 }
 
 // Line k of a picture, and its length; no bytes past the last line. Line 0 is the head or the refusal.
-pub fn line(
-    g: Registers,
-    video: &[u32],
-    cursor: &[u32],
-    k: usize,
-    out: &mut [u8; 8256],
-) -> usize
+pub fn line(g: Registers, video: &[u32], cursor: &[u32], k: usize, out: &mut [u8; 8256]) -> usize
     ensures { λ r. ⌜ Put (now (out .entry)) (now (out .exit)) 0 (lineAt g (now (video .entry)) (now (cursor .entry)) k) r ⌝ }
 {
     match judge(g, video, cursor) {

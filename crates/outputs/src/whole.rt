@@ -21,7 +21,14 @@ fn measure_line(g: Registers, video: &[u32], cursor: &[u32], k: usize) -> usize
 }
 
 // Line k stored from a place on, and how many bytes it has.
-fn put_line_at(g: Registers, video: &[u32], cursor: &[u32], k: usize, out: &mut [u8], at: usize) -> usize
+fn put_line_at(
+    g: Registers,
+    video: &[u32],
+    cursor: &[u32],
+    k: usize,
+    out: &mut [u8],
+    at: usize,
+) -> usize
     requires { ⌜ at + length (lineAt g (now video) (now cursor) k) ≤ length (now out) ⌝ }
     ensures { λ r. ⌜
         (r ≡ length (lineAt g (now (video .entry)) (now (cursor .entry)) k))

@@ -24,14 +24,21 @@ enum-known-p : tie.Need-enum-known-p
 enum-known-p c = search needs
 
 sub-video : tie.Need-sub-video
-sub-video c = in-order (c .before .before .before .before .before .before .before .args .file .now) (c .before .before .before .before .before .before .before .args .words .now) _ (c .before .before .before .before .read .ensures) _ (c .before .before .p .given .1) .v-r
+sub-video c =
+    let s = c .before .before .before .before .before .before .before in
+    let read = c .before .before .before .before .read in
+    let p = c .before .before .p in
+    in-order (s .args .file .now) (s .args .words .now) _ (read .ensures) _ (p .given .1) .v-r
 
 cast-video : tie.Need-cast-video
 cast-video c = search needs
 
 load-registers-requires : tie.Need-load-registers-requires
 load-registers-requires c κs =
-    let o = in-order (c .before .before .before .before .before .before .before .args .file .now) (c .before .before .before .before .before .before .before .args .words .now) _ (c .before .before .before .before .read .ensures) _ (c .before .before .p .given .1) in
+    let s = c .before .before .before .before .before .before .before in
+    let read = c .before .before .before .before .read in
+    let p = c .before .before .p in
+    let o = in-order (s .args .file .now) (s .args .words .now) _ (read .ensures) _ (p .given .1) in
     omega (arith, o .whole)
 
 enum-known-answer : tie.Need-enum-known-answer
@@ -51,10 +58,15 @@ not-taken-requires-3 c κs = search needs
 
 returns : tie.Need-returns
 returns c =
-    let file = c .before .before .before .before .before .before .before .before .before .before .before .before .before .before .args .file .now in
-    let words = c .before .before .before .before .before .before .before .before .before .before .before .before .before .before .args .words .now in
-    let load = c .before .before .before .before .before .before .load-registers .ensures in
-    let short = take-short file words _ (c .before .before .before .before .before .before .before .before .before .before .before .read .ensures) _ (c .before .before .before .before .before .before .before .before .before .p .given .1) _ _ (load .0) (load .1) (c .before .before .before .enum-told .given .1) (c .before .if1 .taken) in
+    let s = c .before .before .before .before .before .before .before .before .before .before .before .before .before .before in
+    let read = c .before .before .before .before .before .before .before .before .before .before .before .read in
+    let p = c .before .before .before .before .before .before .before .before .before .p in
+    let load-registers = c .before .before .before .before .before .before .load-registers in
+    let enum-told = c .before .before .before .enum-told in
+    let file = s .args .file .now in
+    let words = s .args .words .now in
+    let load = load-registers .ensures in
+    let short = take-short file words _ (read .ensures) _ (p .given .1) _ _ (load .0) (load .1) (enum-told .given .1) (c .before .if1 .taken) in
     let out = c .not-taken3 .ensures in
     not-taken (takeTold file (length words)) _ _ (partsOf file) words words (sets words 0 (copied file)) (why 13 0) short (out .0) (out .1) refl
 
@@ -63,7 +75,11 @@ copy-out-requires c κs = search needs
 
 sub-t21 : tie.Need-sub-t21
 sub-t21 c =
-    let o = in-order (c .before .before .before .before .before .before .before .before .before .before .before .before .before .before .before .before .before .before .args .file .now) (c .before .before .before .before .before .before .before .before .before .before .before .before .before .before .before .before .before .before .args .words .now) _ (c .before .before .before .before .before .before .before .before .before .before .before .before .before .before .before .read .ensures) _ (c .before .before .before .before .before .before .before .before .before .before .before .before .before .p .given .1) in
+    let call = c .before .before .before .before .before .before .before .before .before .before in
+    let s = call .before .before .before .before .before .before .before .before in
+    let read = c .before .before .before .before .before .before .before .before .before .before .before .before .before .before .before .read in
+    let p = c .before .before .before .before .before .before .before .before .before .before .before .before .before .p in
+    let o = in-order (s .args .file .now) (s .args .words .now) _ (read .ensures) _ (p .given .1) in
     omega (arith, o .v-r, o .c-v)
 
 cast-t14 : tie.Need-cast-t14
@@ -71,7 +87,11 @@ cast-t14 c = search needs
 
 sub-t22 : tie.Need-sub-t22
 sub-t22 c =
-    let o = in-order (c .before .before .before .before .before .before .before .before .before .before .before .before .before .before .before .before .before .before .before .args .file .now) (c .before .before .before .before .before .before .before .before .before .before .before .before .before .before .before .before .before .before .before .args .words .now) _ (c .before .before .before .before .before .before .before .before .before .before .before .before .before .before .before .before .read .ensures) _ (c .before .before .before .before .before .before .before .before .before .before .before .before .before .before .p .given .1) in
+    let call = c .before .before .before .before .before .before .before .before .before .before in
+    let s = call .before .before .before .before .before .before .before .before .before in
+    let read = c .before .before .before .before .before .before .before .before .before .before .before .before .before .before .before .before .read in
+    let p = c .before .before .before .before .before .before .before .before .before .before .before .before .before .before .p in
+    let o = in-order (s .args .file .now) (s .args .words .now) _ (read .ensures) _ (p .given .1) in
     omega (arith, o .v-r, o .c-v, o .s-c)
 
 cast-t15 : tie.Need-cast-t15
@@ -90,10 +110,15 @@ returns-2 c =
 
 returns-3 : tie.Need-returns-3
 returns-3 c =
-    let file = c .before .before .before .before .before .before .before .before .before .before .before .before .before .args .file .now in
-    let words = c .before .before .before .before .before .before .before .before .before .before .before .before .before .args .words .now in
-    let load = c .before .before .before .before .before .load-registers .ensures in
-    let unloaded = take-unloaded file words _ (c .before .before .before .before .before .before .before .before .before .before .read .ensures) _ (c .before .before .before .before .before .before .before .before .p .given .1) _ _ (load .0) (load .1) _ (c .before .before .answer .given .1) in
+    let s = c .before .before .before .before .before .before .before .before .before .before .before .before .before in
+    let read = c .before .before .before .before .before .before .before .before .before .before .read in
+    let p = c .before .before .before .before .before .before .before .before .p in
+    let load-registers = c .before .before .before .before .before .load-registers in
+    let answer = c .before .before .answer in
+    let file = s .args .file .now in
+    let words = s .args .words .now in
+    let load = load-registers .ensures in
+    let unloaded = take-unloaded file words _ (read .ensures) _ (p .given .1) _ _ (load .0) (load .1) _ (answer .given .1) in
     let out = c .not-taken2 .ensures in
     not-taken (takeTold file (length words)) _ _ (partsOf file) words words (sets words 0 (copied file)) _ unloaded (out .0) (out .1) refl
 
@@ -102,17 +127,26 @@ same-length c = search needs
 
 returns-4 : tie.Need-returns-4
 returns-4 c =
-    let file = c .before .before .before .before .before .before .before .before .before .before .before .before .before .before .before .before .before .before .before .before .args .file .now in
-    let words = c .before .before .before .before .before .before .before .before .before .before .before .before .before .before .before .before .before .before .before .before .args .words .now in
-    let read = c .before .before .before .before .before .before .before .before .before .before .before .before .before .before .before .before .before .read .ensures in
-    let p = c .before .before .before .before .before .before .before .before .before .before .before .before .before .before .before .p .given .1 in
-    let load = c .before .before .before .before .before .before .before .before .before .before .before .before .load-registers .ensures in
-    let done = c .before .before .before .before .before .before .before .before .before .enum-told .given .1 in
-    let fits = c .before .before .before .before .before .before .before .if1 .left in
+    let call = c .before .before .before .before .before .before .before .before .before .before in
+    let s = call .before .before .before .before .before .before .before .before .before .before in
+    let call = c .before .before .before .before .before .before .before .before .before .before in
+    let read-2 = call .before .before .before .before .before .before .before .read in
+    let p-2 = c .before .before .before .before .before .before .before .before .before .before .before .before .before .before .before .p in
+    let load-registers = c .before .before .before .before .before .before .before .before .before .before .before .before .load-registers in
+    let enum-told = c .before .before .before .before .before .before .before .before .before .enum-told in
+    let if1 = c .before .before .before .before .before .before .before .if1 in
+    let copy-out = c .before .before .before .before .before .copy-out in
+    let file = s .args .file .now in
+    let words = s .args .words .now in
+    let read = read-2 .ensures in
+    let p = p-2 .given .1 in
+    let load = load-registers .ensures in
+    let done = enum-told .given .1 in
+    let fits = if1 .left in
     let given = take-given file words _ read _ p _ _ (load .0) (load .1) done fits in
     let parts = parts-are file words _ read _ p _ _ (load .0) (load .1) done _ refl refl refl refl refl in
     is-taken (takeTold file (length words)) _ _ (partsOf file) words _ (sets words 0 (copied file)) given refl parts
-    (copied-out file words _ read _ p _ fits (c .before .before .before .before .before .copy-out .ensures .1))
+    (copied-out file words _ read _ p _ fits (copy-out .ensures .1))
 
 pub take-spec : {M : Type 1} → statement M
 take-spec =

@@ -15,7 +15,10 @@ enum-told-2 : tie.Need-enum-told-2
 enum-told-2 c = search needs
 
 wave-block-requires : tie.Need-wave-block-requires
-wave-block-requires c κs = (search needs, sound-given (c .before .before .before .before .before .args .g) _ (c .before .before .before .check-sound .ensures) (c .before .enum-told2 .given .1))
+wave-block-requires c κs =
+    let s = c .before .before .before .before .before in
+    let check-sound = c .before .before .before .check-sound in
+    (search needs, sound-given (s .args .g) _ (check-sound .ensures) (c .before .enum-told2 .given .1))
 
 returns : tie.Need-returns
 returns c =
@@ -24,8 +27,11 @@ returns c =
 
 returns-2 : tie.Need-returns-2
 returns-2 c =
-    let a = c .before .before .before .before .before .before .args in
-    rw (block-given (a .g) _ (c .before .before .before .before .check-sound .ensures) (a .words .now) (a .k) (c .before .before .enum-told2 .given .1)) (c .wave-block .ensures)
+    let s = c .before .before .before .before .before .before in
+    let check-sound = c .before .before .before .before .check-sound in
+    let enum-told2 = c .before .before .enum-told2 in
+    let a = s .args in
+    rw (block-given (a .g) _ (check-sound .ensures) (a .words .now) (a .k) (enum-told2 .given .1)) (c .wave-block .ensures)
 
 pub block-spec : {M : Type 1} → statement M
 block-spec =

@@ -33,10 +33,12 @@ same-length c = search needs
 
 returns : tie.Need-returns
 returns c =
+    let play = c .before .before .before .before .before .before .before .play in
+    let samples = c .before .before .samples in
     let s = c .before .before .before .before .before .before .before .before .before .before .before in
     let few = s .pre .1 in
-    samples-put (s .args .g) (s .args .words .now) (s .args .counter) (replicate 2048 (pos 0)) _ (s .pre .2) (c .before .before .before .before .before .before .before .play .ensures .2) (omega (arith, few))
-    (length (s .args .out .now)) (omega (arith, s .pre .0, few)) (c .before .before .samples .ensures)
+    samples-put (s .args .g) (s .args .words .now) (s .args .counter) (replicate 2048 (pos 0)) _ (s .pre .2) (play .ensures .2) (omega (arith, few))
+    (length (s .args .out .now)) (omega (arith, s .pre .0, few)) (samples .ensures)
 
 pub put-words-spec : {M : Type 1} → statement M
 put-words-spec =

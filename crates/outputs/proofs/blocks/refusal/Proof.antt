@@ -18,7 +18,11 @@ enum-told : tie.Need-enum-told
 enum-told c = search needs
 
 returns : tie.Need-returns
-returns c = rw (line-refused (c .before .before .before .before .before .before .args .g) _ (c .before .before .before .before .before .check-sound .ensures) _ (c .before .before .before .why .given .1)) (c .put-refused .ensures)
+returns c =
+    let s = c .before .before .before .before .before .before in
+    let check-sound = c .before .before .before .before .before .check-sound in
+    let why = c .before .before .before .why in
+    rw (line-refused (s .args .g) _ (check-sound .ensures) _ (why .given .1)) (c .put-refused .ensures)
 
 returns-2 : tie.Need-returns-2
 returns-2 c = rw (line-none (c .before .before .before .args .g) _ (c .before .before .check-sound .ensures) (c .enum-told .given .1)) (put-nothing _)

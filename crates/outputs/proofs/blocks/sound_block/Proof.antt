@@ -43,8 +43,12 @@ same-length c = search needs
 
 returns-2 : tie.Need-returns-2
 returns-2 c =
-    let a = c .before .before .before .before .before .before .before .before .before .args in
-    rw (← block-last (a .g) (a .words .now) (a .k) (omega (arith, c .before .before .before .before .before .before .if1 .left)) (c .before .before .before .before .before .if2 .taken)) (c .before .before .put-words .ensures)
+    let s = c .before .before .before .before .before .before .before .before .before in
+    let if1 = c .before .before .before .before .before .before .if1 in
+    let if2 = c .before .before .before .before .before .if2 in
+    let put-words = c .before .before .put-words in
+    let a = s .args in
+    rw (← block-last (a .g) (a .words .now) (a .k) (omega (arith, if1 .left)) (if2 .taken)) (put-words .ensures)
 
 add-put-words : tie.Need-add-put-words
 add-put-words c = search needs

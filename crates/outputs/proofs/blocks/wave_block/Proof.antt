@@ -17,9 +17,17 @@ same-length c = search needs
 
 returns : tie.Need-returns
 returns c =
+    let if1 = c .before .before .before .before .before .if1 in
+    let sound-frequency = c .before .before .before .before .sound-frequency in
+    let head = c .before .before .head in
     let s = c .before .before .before .before .before .before .before .before in
-    rw (file-head (s .args .g) (s .args .words .now) (s .args .k) (c .before .before .before .before .before .if1 .taken), ← some-head (length (s .args .out .now)) _ _ (search needs), ← c .before .before .before .before .sound-frequency .ensures)
-    (c .before .before .head .ensures)
+    rw (
+      file-head (s .args .g) (s .args .words .now) (s .args .k) (if1 .taken),
+      ← some-head (length (s .args .out .now)) _ _
+          (search needs),
+      ← sound-frequency .ensures,
+    )
+    (head .ensures)
 
 sub-sound-block : tie.Need-sub-sound-block
 sub-sound-block c = search needs

@@ -1,3 +1,4 @@
+-- The run under way and the cells still to come make the same text at each turn; four bytes a cell are room enough.
 use lib.ListN.{length-set}
 use mathlib.Core.Path.{_∙_}
 use borrow.Author.Needs.{needs}
@@ -33,7 +34,9 @@ shared-slice-read-step : tie.Need-shared-slice-read-step Inv-loop μ-loop
 shared-slice-read-step c = search needs
 
 step-requires : tie.Need-step-requires Inv-loop μ-loop
-step-requires c κs = (record { some = c .before .before .before .loop .inv .some; small = c .before .before .before .loop .inv .small; fits = omega arith }, omega arith)
+step-requires c κs =
+    let loop = c .before .before .before .loop in
+    (record { some = loop .inv .some; small = loop .inv .small; fits = omega arith }, omega arith)
 
 add-i : tie.Need-add-i Inv-loop μ-loop
 add-i c = search needs
@@ -45,19 +48,67 @@ loop-again : tie.Need-loop-again Inv-loop μ-loop
 loop-again c = one-more _ _ _ _ _ _ _ _ (omega arith) (c .before .before .before .before .before .before .loop .inv) (c .before .before .step .ensures)
 
 put-run-requires : tie.Need-put-run-requires Inv-loop μ-loop
-put-run-requires c κs = omega (arith, run-fits (c .before .before .loop .held .code) (c .before .before .loop .held .n) (c .before .before .loop .inv .small) (c .before .before .loop .inv .some), c .before .before .loop .inv .fits, c .before .before .loop .inv .to, c .before .before .loop .inv .len)
+put-run-requires c κs =
+    let loop = c .before .before .loop in
+    omega (arith, run-fits (loop .held .code) (loop .held .n) (loop .inv .small) (loop .inv .some), loop .inv .fits, loop .inv .to, loop .inv .len)
 
 slice-write-out : tie.Need-slice-write-out Inv-loop μ-loop
-slice-write-out c = omega (arith, run-fits (c .before .before .before .before .before .loop .held .code) (c .before .before .before .before .before .loop .held .n) (c .before .before .before .before .before .loop .inv .small) (c .before .before .before .before .before .loop .inv .some), c .before .before .before .before .before .loop .inv .fits, c .before .before .before .before .before .loop .inv .to, c .before .before .before .before .before .loop .inv .len, c .before .before .put-run .ensures .0, c .before .before .put-run .kept .0, c .before .before .before .before .before .before .before .before .before .pre .2)
+slice-write-out c =
+    let s = c .before .before .before .before .before .before .before .before .before in
+    let loop = c .before .before .before .before .before .loop in
+    let put-run = c .before .before .put-run in
+    omega (
+      arith,
+      run-fits (loop .held .code) (loop .held .n) (loop .inv .small)
+          (loop .inv .some),
+      loop .inv .fits,
+      loop .inv .to,
+      loop .inv .len,
+      put-run .ensures .0,
+      put-run .kept .0,
+      s .pre .2,
+    )
 
 add-result : tie.Need-add-result Inv-loop μ-loop
-add-result c = omega (arith, run-fits (c .before .before .before .before .before .loop .held .code) (c .before .before .before .before .before .loop .held .n) (c .before .before .before .before .before .loop .inv .small) (c .before .before .before .before .before .loop .inv .some), c .before .before .before .before .before .loop .inv .fits, c .before .before .before .before .before .loop .inv .to, c .before .before .before .before .before .loop .inv .len, c .before .before .put-run .ensures .0, c .before .before .put-run .kept .0, c .before .before .before .before .before .before .before .before .before .pre .2)
+add-result c =
+    let s = c .before .before .before .before .before .before .before .before .before in
+    let loop = c .before .before .before .before .before .loop in
+    let put-run = c .before .before .put-run in
+    omega (
+      arith,
+      run-fits (loop .held .code) (loop .held .n) (loop .inv .small)
+          (loop .inv .some),
+      loop .inv .fits,
+      loop .inv .to,
+      loop .inv .len,
+      put-run .ensures .0,
+      put-run .kept .0,
+      s .pre .2,
+    )
 
 same-length : tie.Need-same-length Inv-loop μ-loop
 same-length c = simp length-set (c .before .before .put-run .kept .0 ∙ c .before .before .before .before .before .loop .inv .len)
 
 returns : tie.Need-returns Inv-loop μ-loop
-returns c = record { stored = line-stored _ _ _ _ _ _ _ _ (c .before .before .before .before .before .loop .inv) (omega (arith, c .before .before .before .before .before .loop .inv .to)) (c .before .before .put-run .ensures .1) (c .before .before .put-run .ensures .0); after = line-length _ _ _ _ _ _ _ _ (c .before .before .before .before .before .loop .inv) (omega (arith, c .before .before .before .before .before .loop .inv .to)) (c .before .before .put-run .ensures .1) (c .before .before .put-run .ensures .0); inside = omega (arith, run-fits (c .before .before .before .before .before .loop .held .code) (c .before .before .before .before .before .loop .held .n) (c .before .before .before .before .before .loop .inv .small) (c .before .before .before .before .before .loop .inv .some), c .before .before .before .before .before .loop .inv .fits, c .before .before .before .before .before .loop .inv .to, c .before .before .put-run .ensures .0, c .before .before .before .before .before .before .before .before .before .pre .2) }
+returns c =
+    let s = c .before .before .before .before .before .before .before .before .before in
+    let loop = c .before .before .before .before .before .loop in
+    let put-run = c .before .before .put-run in
+    record {
+      stored = line-stored _ _ _ _ _ _ _ _ (loop .inv) (omega (arith, loop .inv .to)) (put-run .ensures .1)
+          (put-run .ensures .0);
+      after = line-length _ _ _ _ _ _ _ _ (loop .inv) (omega (arith, loop .inv .to)) (put-run .ensures .1)
+          (put-run .ensures .0);
+      inside = omega (
+        arith,
+        run-fits (loop .held .code) (loop .held .n) (loop .inv .small)
+            (loop .inv .some),
+        loop .inv .fits,
+        loop .inv .to,
+        put-run .ensures .0,
+        s .pre .2,
+      );
+    }
 
 pub put-line-spec : {M : Type 1} → statement M
 put-line-spec =

@@ -1,3 +1,4 @@
+-- The first power of ten above the number tells its places; ten are enough for every number of 32 bits.
 use borrow.Author.Needs.{needs}
 use Rattle.outputs.proofs.Tens.{fits-yes, fits-no}
 use Rattle.outputs.specs.Decimal.{fitsIn, places}
@@ -25,7 +26,10 @@ array-read-if1 : tie.Need-array-read-if1 Inv-loop μ-loop
 array-read-if1 c = search needs
 
 returns : tie.Need-returns Inv-loop μ-loop
-returns c = sym (c .before .before .loop .inv .2 ∙ lowest-here (fitsIn (c .before .before .before .args .n)) 10 (c .before .before .loop .k) (omega arith) (fits-yes (c .before .before .before .args .n) (c .before .before .loop .k) (omega arith) (c .if1 .taken)))
+returns c =
+    let s = c .before .before .before in
+    let loop = c .before .before .loop in
+    sym (loop .inv .2 ∙ lowest-here (fitsIn (s .args .n)) 10 (loop .k) (omega arith) (fits-yes (s .args .n) (loop .k) (omega arith) (c .if1 .taken)))
 
 add-k : tie.Need-add-k Inv-loop μ-loop
 add-k c = search needs
@@ -34,7 +38,14 @@ loop-less : tie.Need-loop-less Inv-loop μ-loop
 loop-less c = search needs
 
 loop-again : tie.Need-loop-again Inv-loop μ-loop
-loop-again c = (omega arith, omega arith, c .before .before .loop .inv .2 ∙ lowest-more (fitsIn (c .before .before .before .args .n)) 10 (c .before .before .loop .k) (omega arith) (fits-no (c .before .before .before .args .n) (c .before .before .loop .k) (omega arith) (c .if1 .left)))
+loop-again c =
+    let s = c .before .before .before in
+    let loop = c .before .before .loop in (
+      omega arith,
+      omega arith,
+      loop .inv .2 ∙ lowest-more (fitsIn (s .args .n)) 10 (loop .k) (omega arith)
+          (fits-no (s .args .n) (loop .k) (omega arith) (c .if1 .left)),
+    )
 
 returns-2 : tie.Need-returns-2 Inv-loop μ-loop
 returns-2 c = sym (c .before .loop .inv .2 ∙ lowest-end (fitsIn (c .before .before .args .n)) 10 _ (omega arith))

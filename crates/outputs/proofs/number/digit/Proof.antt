@@ -1,3 +1,4 @@
+-- The table holds the powers of ten, so that the digit is the quotient's last.
 use Rattle.outputs.proofs.Tens.{ten-at, ten-positive}
 use borrow.Author.Needs.{needs}
 use Rattle.outputs.proofs.number.digit.Statement.{statement}

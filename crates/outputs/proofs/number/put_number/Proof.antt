@@ -1,3 +1,4 @@
+-- Each turn stores the next digit from the left, so that the digits left to store are those after it.
 use borrow.Author.Needs.{needs}
 use Rattle.outputs.proofs.Tens.{digits-turn, digits-none}
 use Rattle.outputs.specs.Decimal.{fitsIn, places, digits, decimal}
@@ -22,7 +23,14 @@ count-places-requires c κs = search needs
 
 loop-holds : tie.Need-loop-holds Inv-loop μ-loop
 unfolding decimal
-loop-holds c = (omega (arith, c .count-places .ensures, lowest-most (fitsIn (c .before .before .args .n)) 9 1), omega (arith, c .count-places .ensures), refl, rw (c .count-places .ensures))
+loop-holds c =
+    let s = c .before .before in (
+      omega (arith, c .count-places .ensures, lowest-most (fitsIn (s .args .n)) 9 1),
+      omega (arith, c .count-places .ensures),
+      refl,
+      rw
+          (c .count-places .ensures),
+    )
 
 sub-k : tie.Need-sub-k Inv-loop μ-loop
 sub-k c = search needs
@@ -40,13 +48,23 @@ loop-less : tie.Need-loop-less Inv-loop μ-loop
 loop-less c = search needs
 
 loop-again : tie.Need-loop-again Inv-loop μ-loop
-loop-again c = (omega arith, omega arith, simp length-set (c .before .before .loop .inv .2), rw (c .digit .ensures) (sym (digits-turn (c .before .before .loop .out) (c .before .before .loop .i) _ (c .before .before .loop .k) (omega arith)) ∙ c .before .before .loop .inv .3))
+loop-again c =
+    let loop = c .before .before .loop in (
+      omega arith,
+      omega arith,
+      simp length-set (loop .inv .2),
+      rw (c .digit .ensures)
+          (sym (digits-turn (loop .out) (loop .i) _ (loop .k) (omega arith)) ∙ loop .inv .3),
+    )
 
 same-length : tie.Need-same-length Inv-loop μ-loop
 same-length c = c .before .loop .inv .2
 
 returns : tie.Need-returns Inv-loop μ-loop
-returns c = (omega arith, sym (digits-none (c .before .loop .out) (c .before .loop .i) (c .before .before .before .before .args .n) (c .before .loop .k) (omega arith)) ∙ c .before .loop .inv .3)
+returns c =
+    let s = c .before .before .before .before in
+    let loop = c .before .loop in
+    (omega arith, sym (digits-none (loop .out) (loop .i) (s .args .n) (loop .k) (omega arith)) ∙ loop .inv .3)
 
 pub put-number-spec : {M : Type 1} → statement M
 put-number-spec =

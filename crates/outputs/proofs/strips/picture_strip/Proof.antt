@@ -25,8 +25,11 @@ same-length c = search needs
 
 returns : tie.Need-returns
 returns c =
-    let a = c .before .before .before .before .before .before .before .before .before .before .before .before .args in
-    rw (strip-head (a .g) (a .video .now) (a .cursor .now) (a .s) (a .k) (c .before .before .before .before .before .before .before .before .if1 .taken)) (c .before .before .put-pair .ensures)
+    let s = c .before .before .before .before .before .before .before .before .before .before .before .before in
+    let if1 = c .before .before .before .before .before .before .before .before .if1 in
+    let put-pair = c .before .before .put-pair in
+    let a = s .args in
+    rw (strip-head (a .g) (a .video .now) (a .cursor .now) (a .s) (a .k) (if1 .taken)) (put-pair .ensures)
 
 cast-if2 : tie.Need-cast-if2
 cast-if2 c = search needs
@@ -50,8 +53,12 @@ same-length-2 c = search needs
 
 returns-3 : tie.Need-returns-3
 returns-3 c =
-    let a = c .before .before .before .before .before .before .before .before .before .before .args in
-    rw (strip-raster (a .g) (a .video .now) (a .cursor .now) (a .s) (a .k) (c .before .before .before .before .before .before .if1 .left) (c .before .before .before .before .if2 .left)) (c .before .before .raster-strip .ensures)
+    let s = c .before .before .before .before .before .before .before .before .before .before in
+    let if1 = c .before .before .before .before .before .before .if1 in
+    let if2 = c .before .before .before .before .if2 in
+    let raster-strip = c .before .before .raster-strip in
+    let a = s .args in
+    rw (strip-raster (a .g) (a .video .now) (a .cursor .now) (a .s) (a .k) (if1 .left) (if2 .left)) (raster-strip .ensures)
 
 pub picture-strip-spec : {M : Type 1} → statement M
 picture-strip-spec =

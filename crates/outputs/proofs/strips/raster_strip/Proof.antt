@@ -39,15 +39,17 @@ same-length c = search needs
 returns : tie.Need-returns
 unfolding rasterStrip
 returns c =
+    let raster = c .before .before .before .before .before .before .before .before .raster in
+    let guns = c .before .before .guns in
     let s = c .before .before .before .before .before .before .before .before .before .before .before .before .before in
     let a = picture-accepted (s .args .g) (s .args .video .now) (s .args .cursor .now) (s .args .s) (s .pre .2) in
-    let r = c .before .before .before .before .before .before .before .before .raster in
+    let r = raster in
     let k = r .kept .1 .1 .1 .1 .0 in
     let n = s .args .s .n .0 in
     let cells = r .last .1 .1 .1 .1 .0 in
     let values = raster-values (s .args .g) (s .args .video .now) (s .args .cursor .now) (s .args .s) (s .pre .2) (s .args .y .0) _ cells
     (s .pre .1) (omega (arith, a .n-most, k)) (r .ensures .1) in
-    part-guns n _ cells _ values (omega (arith, a .n-most, k, length-take-le (n - 0) cells (omega (arith, a .n-most, k)), s .pre .0)) (c .before .before .guns .ensures)
+    part-guns n _ cells _ values (omega (arith, a .n-most, k, length-take-le (n - 0) cells (omega (arith, a .n-most, k)), s .pre .0)) (guns .ensures)
 
 pub raster-strip-spec : {M : Type 1} → statement M
 raster-strip-spec =

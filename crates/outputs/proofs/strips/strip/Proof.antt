@@ -17,8 +17,11 @@ enum-known-s c = search needs
 
 picture-strip-requires : tie.Need-picture-strip-requires
 picture-strip-requires c κs =
-    let a = c .before .before .before .before .before .before .before .args in
-    (search needs, judged-given (a .g) (a .video .now) (a .cursor .now) (a .k) _ (c .before .before .before .before .judge .ensures) _ (c .before .before .s .given .1))
+    let s = c .before .before .before .before .before .before .before in
+    let judge = c .before .before .before .before .judge in
+    let s-2 = c .before .before .s in
+    let a = s .args in
+    (search needs, judged-given (a .g) (a .video .now) (a .cursor .now) (a .k) _ (judge .ensures) _ (s-2 .given .1))
 
 returns : tie.Need-returns
 returns c =
@@ -27,8 +30,11 @@ returns c =
 
 returns-2 : tie.Need-returns-2
 returns-2 c =
-    let a = c .before .before .before .before .before .before .before .before .args in
-    rw (strip-given (a .g) (a .video .now) (a .cursor .now) (a .k) _ (c .before .before .before .before .before .judge .ensures) _ (c .before .before .before .s .given .1)) (c .picture-strip .ensures)
+    let s = c .before .before .before .before .before .before .before .before in
+    let judge = c .before .before .before .before .before .judge in
+    let s-2 = c .before .before .before .s in
+    let a = s .args in
+    rw (strip-given (a .g) (a .video .now) (a .cursor .now) (a .k) _ (judge .ensures) _ (s-2 .given .1)) (c .picture-strip .ensures)
 
 pub strip-spec : {M : Type 1} → statement M
 strip-spec =

@@ -36,14 +36,18 @@ same-length c = search needs
 returns : tie.Need-returns
 unfolding pictureHead
 returns c =
+    let marks = c .before .before .before .before .before .before .before .before .before .marks in
+    let marks2 = c .before .before .before .before .before .before .before .marks2 in
+    let put-head = c .before .before .put-head in
     let s = c .before .before .before .before .before .before .before .before .before .before .before .before .before in
-    let are = marks-are (s .args .g) (s .args .video .now) (s .args .cursor .now) (s .args .s) (s .pre .1) _ _ (c .before .before .before .before .before .before .before .before .before .marks .ensures) (c .before .before .before .before .before .before .before .marks2 .given .1) in
-    rw (← are) (c .before .before .put-head .ensures)
+    let are = marks-are (s .args .g) (s .args .video .now) (s .args .cursor .now) (s .args .s) (s .pre .1) _ _ (marks .ensures) (marks2 .given .1) in
+    rw (← are) (put-head .ensures)
 
 returns-2 : tie.Need-returns-2
 returns-2 c =
+    let marks = c .before .before .marks in
     let s = c .before .before .before .before .before .before in
-    marks-never (s .args .g) (s .args .video .now) (s .args .cursor .now) (s .args .s) (s .pre .1) _ _ (c .before .before .marks .ensures) (c .enum-told .given .1)
+    marks-never (s .args .g) (s .args .video .now) (s .args .cursor .now) (s .args .s) (s .pre .1) _ _ (marks .ensures) (c .enum-told .given .1)
 
 pub head-line-spec : {M : Type 1} → statement M
 head-line-spec =

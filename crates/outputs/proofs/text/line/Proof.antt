@@ -13,8 +13,11 @@ enum-known-why c = search needs
 
 returns : tie.Need-returns
 returns c =
-    let a = c .before .before .before .before .before .before .before .args in
-    rw (refused-later (a .g) (a .video .now) (a .cursor .now) (a .k) _ (c .before .before .before .before .judge .ensures) _ (c .before .before .why .given .1) (c .if1 .taken)) (put-nothing _)
+    let s = c .before .before .before .before .before .before .before in
+    let judge = c .before .before .before .before .judge in
+    let why = c .before .before .why in
+    let a = s .args in
+    rw (refused-later (a .g) (a .video .now) (a .cursor .now) (a .k) _ (judge .ensures) _ (why .given .1) (c .if1 .taken)) (put-nothing _)
 
 put-refused-requires : tie.Need-put-refused-requires
 put-refused-requires c κs = search needs
@@ -24,18 +27,28 @@ enum-known-s c = search needs
 
 picture-line-requires : tie.Need-picture-line-requires
 picture-line-requires c κs =
-    let a = c .before .before .before .before .before .before .before .args in
-    (search needs, judged-given (a .g) (a .video .now) (a .cursor .now) (a .k) _ (c .before .before .before .before .judge .ensures) _ (c .before .before .s .given .1))
+    let s = c .before .before .before .before .before .before .before in
+    let judge = c .before .before .before .before .judge in
+    let s-2 = c .before .before .s in
+    let a = s .args in
+    (search needs, judged-given (a .g) (a .video .now) (a .cursor .now) (a .k) _ (judge .ensures) _ (s-2 .given .1))
 
 returns-2 : tie.Need-returns-2
 returns-2 c =
-    let a = c .before .before .before .before .before .before .before .before .before .args in
-    rw (refused-first (a .g) (a .video .now) (a .cursor .now) (a .k) _ (c .before .before .before .before .before .before .judge .ensures) _ (c .before .before .before .before .why .given .1) (c .before .before .if1 .left)) (c .put-refused .ensures)
+    let s = c .before .before .before .before .before .before .before .before .before in
+    let judge = c .before .before .before .before .before .before .judge in
+    let why = c .before .before .before .before .why in
+    let if1 = c .before .before .if1 in
+    let a = s .args in
+    rw (refused-first (a .g) (a .video .now) (a .cursor .now) (a .k) _ (judge .ensures) _ (why .given .1) (if1 .left)) (c .put-refused .ensures)
 
 returns-3 : tie.Need-returns-3
 returns-3 c =
-    let a = c .before .before .before .before .before .before .before .before .args in
-    rw (line-given (a .g) (a .video .now) (a .cursor .now) (a .k) _ (c .before .before .before .before .before .judge .ensures) _ (c .before .before .before .s .given .1)) (c .picture-line .ensures)
+    let s = c .before .before .before .before .before .before .before .before in
+    let judge = c .before .before .before .before .before .judge in
+    let s-2 = c .before .before .before .s in
+    let a = s .args in
+    rw (line-given (a .g) (a .video .now) (a .cursor .now) (a .k) _ (judge .ensures) _ (s-2 .given .1)) (c .picture-line .ensures)
 
 pub line-spec : {M : Type 1} → statement M
 line-spec =

@@ -13,8 +13,11 @@ same-length c = search needs
 
 returns : tie.Need-returns
 returns c =
-    let a = c .before .before .before .before .before .before .before .before .args in
-    rw (line-head (a .g) (a .video .now) (a .cursor .now) (a .s) (a .k) (c .before .before .before .before .if1 .taken)) (c .before .before .head-line .ensures)
+    let s = c .before .before .before .before .before .before .before .before in
+    let if1 = c .before .before .before .before .if1 in
+    let head-line = c .before .before .head-line in
+    let a = s .args in
+    rw (line-head (a .g) (a .video .now) (a .cursor .now) (a .s) (a .k) (if1 .taken)) (head-line .ensures)
 
 cast-if2 : tie.Need-cast-if2
 cast-if2 c = search needs
@@ -38,8 +41,12 @@ same-length-2 c = search needs
 
 returns-3 : tie.Need-returns-3
 returns-3 c =
-    let a = c .before .before .before .before .before .before .before .before .before .before .args in
-    rw (line-raster (a .g) (a .video .now) (a .cursor .now) (a .s) (a .k) (c .before .before .before .before .before .before .if1 .left) (c .before .before .before .before .if2 .left)) (c .before .before .raster-line .ensures)
+    let s = c .before .before .before .before .before .before .before .before .before .before in
+    let if1 = c .before .before .before .before .before .before .if1 in
+    let if2 = c .before .before .before .before .if2 in
+    let raster-line = c .before .before .raster-line in
+    let a = s .args in
+    rw (line-raster (a .g) (a .video .now) (a .cursor .now) (a .s) (a .k) (if1 .left) (if2 .left)) (raster-line .ensures)
 
 pub picture-line-spec : {M : Type 1} → statement M
 picture-line-spec =

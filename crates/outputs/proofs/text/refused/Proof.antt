@@ -45,10 +45,14 @@ same-length c = search needs
 
 returns-2 : tie.Need-returns-2
 returns-2 c =
-    let a = c .before .before .before .before .before .before .before .before .before .before .before .args in
-    let put = c .before .before .before .before .before .before .before .before .put-refused .ensures in
-    rw (text-fits (length (a .out .now)) (refusedLine (whyOf (a .why))) (omega (arith, put .after, c .before .before .before .before .before .before .if1 .left)))
-    (rw (put-back _ _ _ _ put) at (c .before .before .put-bytes .ensures))
+    let s = c .before .before .before .before .before .before .before .before .before .before .before in
+    let put-refused = c .before .before .before .before .before .before .before .before .put-refused in
+    let if1 = c .before .before .before .before .before .before .if1 in
+    let put-bytes = c .before .before .put-bytes in
+    let a = s .args in
+    let put = put-refused .ensures in
+    rw (text-fits (length (a .out .now)) (refusedLine (whyOf (a .why))) (omega (arith, put .after, if1 .left)))
+    (rw (put-back _ _ _ _ put) at (put-bytes .ensures))
 
 pub refused-spec : {M : Type 1} → statement M
 refused-spec =

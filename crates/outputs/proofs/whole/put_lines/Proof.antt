@@ -29,8 +29,13 @@ put-line-at-requires : tie.Need-put-line-at-requires Inv-loop μ-loop
 put-line-at-requires c κs =
     let s = c .before .before .before .before .before .before in
     let l = c .before .before .loop in
-    omega (arith, lines-room (s .args .g) (s .args .video .now) (s .args .cursor .now) (l .k) (l .inv .1), s .pre, l .inv .2,
-    simp length-sets at (ap length (l .inv .3)))
+    omega (
+      arith,
+      lines-room (s .args .g) (s .args .video .now) (s .args .cursor .now) (l .k) (l .inv .1),
+      s .pre,
+      l .inv .2,
+      simp length-sets at (ap length (l .inv .3)),
+    )
 
 same-length : tie.Need-same-length Inv-loop μ-loop
 same-length c =

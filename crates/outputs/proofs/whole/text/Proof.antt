@@ -13,8 +13,10 @@ measure-requires c κs = search needs
 
 returns : tie.Need-returns
 returns c =
-    let a = c .before .before .before .before .before .args in
-    let short = text-short (length (a .out .now)) (pictureText (a .g) (a .video .now) (a .cursor .now)) (omega (arith, c .before .measure .ensures, c .if1 .taken)) in
+    let s = c .before .before .before .before .before in
+    let a = s .args in
+    let short = text-short (length (a .out .now)) (pictureText (a .g) (a .video .now) (a .cursor .now))
+    (omega (arith, c .before .measure .ensures, c .if1 .taken)) in
     rw short (put-nothing _)
 
 put-lines-requires : tie.Need-put-lines-requires

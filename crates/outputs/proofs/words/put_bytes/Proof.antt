@@ -1,3 +1,4 @@
+-- Each turn stores one byte, so that the bytes left to store are those after it.
 use borrow.Author.Needs.{needs}
 use Rattle.outputs.proofs.Puts.{bytes-turn, bytes-done}
 use lib.Seq.{sets}
@@ -35,7 +36,10 @@ loop-less : tie.Need-loop-less Inv-loop μ-loop
 loop-less c = search needs
 
 loop-again : tie.Need-loop-again Inv-loop μ-loop
-loop-again c = (omega arith, simp length-set (c .before .before .loop .inv .1), sym (bytes-turn (c .before .before .loop .out) (c .before .before .before .args .text .now) (c .before .before .before .args .at) (c .before .before .loop .k) (omega arith)) ∙ c .before .before .loop .inv .2)
+loop-again c =
+    let s = c .before .before .before in
+    let loop = c .before .before .loop in
+    (omega arith, simp length-set (loop .inv .1), sym (bytes-turn (loop .out) (s .args .text .now) (s .args .at) (loop .k) (omega arith)) ∙ loop .inv .2)
 
 add-result : tie.Need-add-result Inv-loop μ-loop
 add-result c = search needs
@@ -44,7 +48,11 @@ same-length : tie.Need-same-length Inv-loop μ-loop
 same-length c = c .before .loop .inv .1
 
 returns : tie.Need-returns Inv-loop μ-loop
-returns c = let e : c .before .loop .k ≡ length (c .before .before .args .text .now) = omega arith in record { stored = sym (bytes-done (c .before .loop .out) (c .before .before .args .text .now) (c .before .before .args .at) (c .before .loop .k) e) ∙ c .before .loop .inv .2; after = omega arith; inside = omega arith }
+returns c =
+    let s = c .before .before in
+    let loop = c .before .loop in
+    let e : loop .k ≡ length (s .args .text .now) = omega arith in
+    record { stored = sym (bytes-done (loop .out) (s .args .text .now) (s .args .at) (loop .k) e) ∙ loop .inv .2; after = omega arith; inside = omega arith }
 
 pub put-bytes-spec : {M : Type 1} → statement M
 put-bytes-spec =

@@ -1,3 +1,4 @@
+-- Two labelled numbers and an end, each put behind the one before.
 use Rattle.outputs.specs.Text.{pairLine}
 use Rattle.buffers.proofs.Puts.{put-then}
 use borrow.Author.Needs.{needs}
@@ -21,7 +22,11 @@ same-length c = search needs
 
 returns : tie.Need-returns
 unfolding pairLine
-returns c = put-then _ _ (c .before .before .before .before .before .before .before .before .before .before .before .put-labelled .ensures .0) (put-then _ _ (c .before .before .before .before .before .before .put-labelled2 .ensures .0) (c .before .before .put-bytes .ensures))
+returns c =
+    let put-labelled = c .before .before .before .before .before .before .before .before .before .before .before .put-labelled in
+    let put-labelled2 = c .before .before .before .before .before .before .put-labelled2 in
+    let put-bytes = c .before .before .put-bytes in
+    put-then _ _ (put-labelled .ensures .0) (put-then _ _ (put-labelled2 .ensures .0) (put-bytes .ensures))
 
 pub put-pair-spec : {M : Type 1} → statement M
 put-pair-spec =

@@ -22,7 +22,11 @@ same-length : tie.Need-same-length
 same-length c = search needs
 
 returns : tie.Need-returns
-returns c = rw (← c .before .before .before .before .before .number .ensures, ← c .before .before .before .before .detail .ensures) (c .before .before .put-pair .ensures)
+returns c =
+    let number = c .before .before .before .before .before .number in
+    let detail = c .before .before .before .before .detail in
+    let put-pair = c .before .before .put-pair in
+    rw (← number .ensures, ← detail .ensures) (put-pair .ensures)
 
 pub put-refused-spec : {M : Type 1} → statement M
 put-refused-spec =

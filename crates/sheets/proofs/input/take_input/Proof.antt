@@ -15,10 +15,12 @@ not-taken-requires c κs = search needs
 
 returns : tie.Need-returns
 returns c =
-    let file = c .before .before .before .args .file .now in
-    let words = c .before .before .before .args .words .now in
+    let s = c .before .before .before in
+    let file = s .args .file .now in
+    let words = s .args .words .now in
     let out = c .not-taken .ensures in
-    not-taken (inputTold file) _ _ (partsOf file) words words (sets words 0 (copied file)) (why 15 0) (input-large file words (c .before .if1 .taken)) (out .0) (out .1) refl
+    not-taken (inputTold file) _ _ (partsOf file) words words (sets words 0 (copied file)) (why 15 0)
+    (input-large file words (c .before .if1 .taken)) (out .0) (out .1) refl
 
 take-requires : tie.Need-take-requires
 take-requires c κs = search needs

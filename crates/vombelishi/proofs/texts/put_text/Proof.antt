@@ -26,26 +26,37 @@ slice-aggregate-put-parts c =
 
 put-parts-requires : tie.Need-put-parts-requires
 put-parts-requires c κs =
-    let taken = c .before .before .before .before .before .take-input in
-    input-lists (c .before .before .before .before .before .before .before .before .before .args .file .now) _ _ (taken .result) (taken .ensures) (search needs) (c .before .before .enum-told .given .1)
+    let s = c .before .before .before .before .before .before .before .before .before in
+    let take-input = c .before .before .before .before .before .take-input in
+    let enum-told = c .before .before .enum-told in
+    let taken = take-input in
+    input-lists (s .args .file .now) _ _ (taken .result) (taken .ensures) (search needs) (enum-told .given .1)
 
 same-length : tie.Need-same-length
 same-length c = search needs
 
 returns : tie.Need-returns
 returns c =
-    let taken = c .before .before .before .before .before .before .before .before .take-input in
-    let same = text-refused (c .before .before .before .before .before .before .before .before .before .before .before .before .args .file .now) _ _ (taken .result) (taken .ensures) _ (c .before .before .before .before .before .answer .given .1) in
-    rw same (c .before .before .refused .ensures)
+    let s = c .before .before .before .before .before .before .before .before .before .before .before .before in
+    let take-input = c .before .before .before .before .before .before .before .before .take-input in
+    let answer = c .before .before .before .before .before .answer in
+    let refused = c .before .before .refused in
+    let taken = take-input in
+    let same = text-refused (s .args .file .now) _ _ (taken .result) (taken .ensures) _ (answer .given .1) in
+    rw same (refused .ensures)
 
 same-length-2 : tie.Need-same-length-2
 same-length-2 c = search needs
 
 returns-2 : tie.Need-returns-2
 returns-2 c =
-    let taken = c .before .before .before .before .before .before .before .before .take-input in
-    let same = text-held (c .before .before .before .before .before .before .before .before .before .before .before .before .args .file .now) _ _ (taken .result) (taken .ensures) (search needs) (c .before .before .before .before .before .enum-told .given .1) in
-    rw (← same) (c .before .before .put-parts .ensures)
+    let s = c .before .before .before .before .before .before .before .before .before .before .before .before in
+    let take-input = c .before .before .before .before .before .before .before .before .take-input in
+    let enum-told = c .before .before .before .before .before .enum-told in
+    let put-parts = c .before .before .put-parts in
+    let taken = take-input in
+    let same = text-held (s .args .file .now) _ _ (taken .result) (taken .ensures) (search needs) (enum-told .given .1) in
+    rw (← same) (put-parts .ensures)
 
 pub put-text-spec : {M : Type 1} → statement M
 put-text-spec =
