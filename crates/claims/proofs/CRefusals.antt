@@ -29,7 +29,7 @@ use Rattle.sound.specs.Pair.{sidesOf, pairTable}
 use Rattle.plates.specs.Plate.{sectionsOf, plateOf, plateLength}
 use Rattle.plates.specs.Read.{readTable, copyTable, copyTold, copied}
 use Rattle.plates.specs.Write.{writeTable, writeTold}
-use Rattle.runs.specs.Text.{textOf}
+use Rattle.outputs.specs.Text.{textOf}
 use Rattle.vombelishi.specs.Code.{storedBy, cellBy}
 use Rattle.vombelishi.specs.Record.{recordOf, recordTold}
 use Rattle.vombelishi.specs.Load.{valueStored, flagStored, valuesStored, flagsStored, loadCall, loadValues, loadWritten, wordCall, wordValues, wordWritten}

@@ -16,7 +16,8 @@ pub use Rattle.sound.proofs.Unique.{one-pair, one-play}
 pub use Rattle.plates.proofs.Unique.{one-read, one-copy-out, one-write}
 pub use Rattle.pictures.proofs.Unique.{one-guns}
 pub use Rattle.waves.proofs.Unique.{one-head, one-samples}
-pub use Rattle.runs.proofs.Unique.{one-line, one-strip, one-block, one-refusal}
+pub use Rattle.sheets.proofs.Unique.{one-take, one-take-input}
+pub use Rattle.outputs.proofs.Unique.{one-line, one-refused, one-text, one-strip, one-block, one-refusal}
 pub use Rattle.vombelishi.proofs.Unique.{one-vom-read, one-vom-copy, one-vom-write, one-vom-colour, one-vom-grey, one-vom-pin, one-vom-load}
 pub use Rattle.vombelishi.proofs.Unique.{one-vom-load-word, one-vom-frame, one-vom-raster, one-vom-raster-words, one-vom-marks, one-vom-check}
 pub use Rattle.vombelishi.proofs.Unique.{one-vom-check-sound, one-vom-sound, one-vom-sound-pair, one-vom-text}

@@ -1,75 +1,83 @@
--- Demand 1 for a plate that is printed or played: its refusals, in the order 15, 14, 1 to 9, 11 or 15, 14, 1, 2, 3, 10, and what is written of it then.
+-- Demand 1 for a plate that is taken apart, printed or played: its refusals, in the order 14, 1, 2, 13 of a file, and of standard input 15, 14, 1 to 9, 11
+-- or 15, 14, 1, 2, 3, 10, and what is written of it then. What is written of a plate is what is written of its own record and lists.
 use Prim.Native.Nat.{ℕ}
 use mathlib.Core.Path.{_≡_, refl, _∙_, ap}
-use mathlib.Core.List.{List, [], _∷_, _++_}
+use mathlib.Core.List.{List, [], _∷_}
 use native.Mathlib.Omega.{arith}
 use lib.ListN.{length}
-use lib.Dec.{ltb, eqb}
+use lib.Dec.{eqb}
 use lib.Seq.{sets}
 use borrow.Author.Tests.{eq-eqb, ne-eqb}
 use Rattle.buffers.specs.Pick.{pick}
 use Rattle.buffers.specs.Put.{Put}
-use Rattle.refusals.specs.Table.{Why, Told, given, refused, Row, row, judged, andThen, First}
-use Rattle.registers.specs.Load.{loadTable, loadTold}
+use Rattle.refusals.specs.Table.{Why, Told, given, refused, Row, First}
 use Rattle.registers.specs.Setting.{settingOf}
 use Rattle.registers.specs.Sound.{soundTable, soundTold}
-use Rattle.refusals.proofs.Tables.{and-then-judged}
-use Rattle.registers.proofs.Told.{load-told, sound-told}
-use Rattle.plates.specs.Plate.{sectionsOf}
-use Rattle.plates.specs.Read.{readTable, readTold}
-use Rattle.plates.proofs.Told.{read-told}
-use Rattle.runs.specs.Sheet.{mostInput, registerWords, videoList, cursorList, soundList, registersOf, takenTold, sheetTold}
+use Rattle.registers.specs.declared.record.Registers.{Registers}
+use Rattle.plates.specs.Read.{copied}
+use Rattle.sheets.specs.Sheet.{registersOf, takeTable, takeTold}
+use Rattle.sheets.specs.Input.{inputTable, inputTold}
 use Rattle.cells.specs.Picture.{pictureTable, pictureTold}
-use Rattle.cells.proofs.Pictures.{picture-told}
-use Rattle.runs.specs.Text.{refusedLine, pictureLine, lineFor, lineAt, firstLines, textOf}
-use Rattle.runs.specs.Strip.{pictureStrip, stripFor, stripAt, firstStrips, pictureOf}
-use Rattle.runs.specs.Wave.{waveTold, waveOf, refusalFor, waveRefusal, waveBlock, blockFor, blockAt}
-use Rattle.claims.specs.Calls.{Every, numbers, settingNumbers, ByTable}
+use Rattle.outputs.specs.Sheet.{sheetTable, sheetTold}
+use Rattle.outputs.specs.Text.{refusedLine, pictureLine, lineBy, lineAt, firstLines, textBy, pictureText, textOf, textIn}
+use Rattle.outputs.specs.Strip.{pictureStrip, stripBy, stripAt, firstStrips, pictureBy, pictureOf}
+use Rattle.outputs.specs.Wave.{waveTable, waveTold, waveOf, refusalBy, soundRefusal, waveBlock, blockBy, blockAt}
+use Rattle.claims.specs.Calls.{Every, numbers, ByTable, Kept}
 use Rattle.claims.specs.Views as call
-use Rattle.claims.specs.Views.{PieceRun}
-use Rattle.claims.specs.Pieces.{Stored, StoredBy}
-use Rattle.claims.specs.Rows.{takenRows, sheetRows, waveRows}
-use Rattle.claims.proofs.Tables.{by-table}
+use Rattle.claims.specs.Views.{PictureLists, SoundWords, PieceRun, TakeRun}
+use Rattle.claims.specs.Pieces.{Stored, StoredBy, tableOf}
+use Rattle.claims.proofs.Tables.{by-table, kept}
+pub use Rattle.outputs.proofs.Sheets.{text-taken, text-untaken, picture-taken, picture-untaken, sound-taken, wave-untaken}
 
-pub wave-numbers : (file : List ℕ) → numbers (waveRows file) ≡ 15 ∷ 14 ∷ 1 ∷ 2 ∷ 3 ∷ 10 ∷ []
+-- The numbers of each table, in its order.
+pub take-numbers : (file : List ℕ) (places : ℕ) → numbers (takeTable file places) ≡ 14 ∷ 1 ∷ 2 ∷ 13 ∷ []
+take-numbers file places = refl
+
+pub input-numbers : (file : List ℕ) → numbers (inputTable file) ≡ 15 ∷ 14 ∷ 1 ∷ 2 ∷ []
+input-numbers file = refl
+
+pub wave-numbers : (file : List ℕ) → numbers (waveTable file) ≡ 15 ∷ 14 ∷ 1 ∷ 2 ∷ 3 ∷ 10 ∷ []
 wave-numbers file = refl
 
-pub sheet-numbers : (file : List ℕ) → numbers (sheetRows file) ≡ 15 ∷ 14 ∷ 1 ∷ 2 ∷ (settingNumbers ++ (11 ∷ []))
+pub sheet-numbers : (file : List ℕ) → numbers (sheetTable file) ≡ 15 ∷ 14 ∷ 1 ∷ 2 ∷ 3 ∷ 4 ∷ 5 ∷ 6 ∷ 7 ∷ 8 ∷ 9 ∷ 11 ∷ []
 sheet-numbers file = refl
 
--- A table told before another.
-before : {A B : Type 0} (t : Told A) (u : Told B) (a : A) (b : B) (rows more : List Row) → t ≡ judged rows a → u ≡ judged more b
-    → andThen t (λ _. u) ≡ judged (rows ++ more) b
-before t u a b rows more e h =
-    ap (λ v. andThen v (λ _. u)) e ∙ ap (λ v. andThen (judged rows a) (λ _. v)) h ∙ and-then-judged a rows (λ _. more) (λ _. b)
+-- A plate is taken apart, or refused by its table, and then nothing changes.
+pub take-refuses : Every call.take λ run.
+    ByTable (run .answer) (takeTable (run .file) (length (run .before))) tt × Kept (run .answer) (run .before) (run .after)
+unfolding takeTold
+take-refuses κs a x s p =
+    let run : TakeRun = call.take .seen κs a x s in
+    (by-table tt (takeTable (run .file) (length (run .before))) (p .0), kept (sets (run .before) 0 (copied (run .file))) (p .0) (p .2))
 
-taken-told : (file : List ℕ) → takenTold file ≡ judged (takenRows file) tt
-unfolding takenTold
-taken-told file =
-    before (judged (row 15 (ltb mostInput (length file)) 0 ∷ []) (length file)) (andThen (readTold file) (λ _. loadTold (registerWords file)))
-    (length file) tt (row 15 (ltb mostInput (length file)) 0 ∷ []) (readTable file ++ loadTable (registerWords file)) refl
-    (before (readTold file) (loadTold (registerWords file)) (sectionsOf file) tt (readTable file) (loadTable (registerWords file)) (read-told file)
-    (load-told (registerWords file)))
+pub take-input-refuses : Every call.takeInput λ run.
+    ByTable (run .answer) (inputTable (run .file)) tt × Kept (run .answer) (run .before) (run .after)
+unfolding inputTold
+take-input-refuses κs a x s p =
+    let run : TakeRun = call.takeInput .seen κs a x s in
+    (by-table tt (inputTable (run .file)) (p .0), kept (sets (run .before) 0 (copied (run .file))) (p .0) (p .2))
 
 -- A plate is given its setting, or refused, by the printer's table.
-pub sheet-table : (file : List ℕ) → ByTable (sheetTold file) (sheetRows file) (settingOf (registersOf file))
+pub sheet-table : (file : List ℕ) → ByTable (sheetTold file) (sheetTable file) (settingOf (registersOf file))
 unfolding sheetTold
-sheet-table file =
-    by-table _ (sheetRows file)
-    (before (takenTold file) (pictureTold (registersOf file) (videoList file) (cursorList file)) tt (settingOf (registersOf file)) (takenRows file)
-    (pictureTable (registersOf file) (videoList file) (cursorList file)) (taken-told file)
-    (picture-told (registersOf file) (videoList file) (cursorList file)))
+sheet-table file = by-table (settingOf (registersOf file)) (sheetTable file) refl
 
 -- A plate is played, or refused, by the table of its sound.
-pub wave-table : (file : List ℕ) → ByTable (waveTold file) (waveRows file) tt
+pub wave-table : (file : List ℕ) → ByTable (waveTold file) (waveTable file) tt
 unfolding waveTold
-wave-table file =
-    by-table _ (waveRows file)
-    (before (takenTold file) (soundTold (registersOf file)) tt tt (takenRows file) (soundTable (registersOf file)) (taken-told file)
-    (sound-told (registersOf file)))
+wave-table file = by-table tt (waveTable file) refl
+
+-- So are a picture and a sound, each by its own table.
+picture-table : (g : Registers) (video cursor : List ℕ) → ByTable (pictureTold g video cursor) (pictureTable g video cursor) (settingOf g)
+unfolding pictureTold
+picture-table g video cursor = by-table (settingOf g) (pictureTable g video cursor) refl
+
+sound-table : (g : Registers) → ByTable (soundTold g) (soundTable g) tt
+unfolding soundTold
+sound-table g = by-table tt (soundTable g) refl
 
 -- A piece that goes by what a table tells.
-piece : {A : Type 0} (run : PieceRun) {t : Told A} (text : Told A → List ℕ) {rows : List Row} {a : A} → ByTable t rows a
+piece : {A B : Type 0} (run : PieceRun B) {t : Told A} (text : Told A → List ℕ) {rows : List Row} {a : A} → ByTable t rows a
     → Put (run .before) (run .after) 0 (text t) (run .bytes) → StoredBy run rows (text (given a)) (λ w. text (refused w))
 piece {A} run {t} text b p = record { given = λ q. stored (b .given-when .1 q); refused = λ w f. stored (b .refused-when w .1 f) }
   where
@@ -78,52 +86,61 @@ piece {A} run {t} text b p = record { given = λ q. stored (b .given-when .1 q);
 
 -- A line of the text: the picture's, or the line that refuses it, which is the only one.
 pub line-stored : Every call.line λ run.
-    StoredBy run (sheetRows (run .file))
-    (pictureLine (registersOf (run .file)) (settingOf (registersOf (run .file))) (videoList (run .file)) (cursorList (run .file)) (run .index))
+    StoredBy run (tableOf run)
+    (pictureLine (run .of .registers) (settingOf (run .of .registers)) (run .of .video) (run .of .cursor) (run .index))
     (λ w. pick (eqb (run .index) 0) (refusedLine w) [])
 unfolding lineAt
 line-stored κs a x s p =
-    let run : PieceRun = call.line .seen κs a x s in
-    piece run (lineFor (run .file) (run .index)) (sheet-table (run .file)) p
+    let run : PieceRun PictureLists = call.line .seen κs a x s in
+    piece run (λ t. lineBy (run .of .registers) (run .of .video) (run .of .cursor) t (run .index))
+    (picture-table (run .of .registers) (run .of .video) (run .of .cursor)) p
 
-pub line-refuses : Every call.line λ run. (w : Why) → First (sheetRows (run .file)) w → run .index ≡ 0 → Stored run (refusedLine w)
+pub line-refuses : Every call.line λ run. (w : Why) → First (tableOf run) w → run .index ≡ 0 → Stored run (refusedLine w)
 line-refuses κs a x s p w f e = rw (eq-eqb (call.line .seen κs a x s .index) 0 e) at (line-stored κs a x s p .refused w f)
 
-pub no-other-line : Every call.line λ run. (w : Why) → First (sheetRows (run .file)) w → (run .index ≡ 0 → ⊥) → Stored run []
+pub no-other-line : Every call.line λ run. (w : Why) → First (tableOf run) w → (run .index ≡ 0 → ⊥) → Stored run []
 no-other-line κs a x s p w f h = rw (ne-eqb (call.line .seen κs a x s .index) 0 h) at (line-stored κs a x s p .refused w f)
 
-pub text-refused : (file : List ℕ) (w : Why) → First (sheetRows file) w → textOf file ≡ refusedLine w
-unfolding textOf firstLines lineAt
-text-refused file w f = let e = sheet-table file .refused-when w .1 f in rw e (ap (lineFor file 0) e)
+pub text-refused : (file : List ℕ) (w : Why) → First (sheetTable file) w → textOf file ≡ refusedLine w
+unfolding textOf textBy firstLines
+text-refused file w f = rw (sheet-table file .refused-when w .1 f)
 
--- A strip of the picture; a refused plate has none.
+-- The whole text of a picture, and the line that refuses, where they fit; none of either where not.
+pub text-stored : Every call.text λ run.
+    Stored run (textIn (length (run .before)) (pictureText (run .of .registers) (run .of .video) (run .of .cursor)))
+text-stored κs a x s p = (p .stored, omega (arith, p .after))
+
+pub refused-stored : Every call.refusedLine λ run. Stored run (textIn (length (run .before)) (refusedLine (run .of)))
+refused-stored κs a x s p = (p .stored, omega (arith, p .after))
+
+-- A strip of the picture; a refused picture has none.
 pub strip-stored : Every call.strip λ run.
-    StoredBy run (sheetRows (run .file))
-    (pictureStrip (registersOf (run .file)) (settingOf (registersOf (run .file))) (videoList (run .file)) (cursorList (run .file)) (run .index))
-    (λ w. [])
+    StoredBy run (tableOf run)
+    (pictureStrip (run .of .registers) (settingOf (run .of .registers)) (run .of .video) (run .of .cursor) (run .index)) (λ w. [])
 unfolding stripAt
 strip-stored κs a x s p =
-    let run : PieceRun = call.strip .seen κs a x s in
-    piece run (stripFor (run .file) (run .index)) (sheet-table (run .file)) p
+    let run : PieceRun PictureLists = call.strip .seen κs a x s in
+    piece run (λ t. stripBy (run .of .registers) (run .of .video) (run .of .cursor) t (run .index))
+    (picture-table (run .of .registers) (run .of .video) (run .of .cursor)) p
 
-pub picture-refused : (file : List ℕ) (w : Why) → First (sheetRows file) w → pictureOf file ≡ []
-unfolding pictureOf firstStrips
+pub picture-refused : (file : List ℕ) (w : Why) → First (sheetTable file) w → pictureOf file ≡ []
+unfolding pictureOf pictureBy firstStrips
 picture-refused file w f = rw (sheet-table file .refused-when w .1 f)
 
--- A block of the sound; a plate whose sound is refused has none, and a line that says so.
+-- A block of the sound; a record whose sound is refused has none, and a line that says so.
 pub block-stored : Every call.block λ run.
-    StoredBy run (waveRows (run .file)) (waveBlock (registersOf (run .file)) (soundList (run .file)) (run .index)) (λ w. [])
+    StoredBy run (soundTable (run .of .registers)) (waveBlock (run .of .registers) (run .of .words) (run .index)) (λ w. [])
 unfolding blockAt
 block-stored κs a x s p =
-    let run : PieceRun = call.block .seen κs a x s in
-    piece run (blockFor (run .file) (run .index)) (wave-table (run .file)) p
+    let run : PieceRun SoundWords = call.block .seen κs a x s in
+    piece run (λ t. blockBy (run .of .registers) (run .of .words) t (run .index)) (sound-table (run .of .registers)) p
 
-pub wave-refused : (file : List ℕ) (w : Why) → First (waveRows file) w → waveOf file ≡ []
+pub wave-refused : (file : List ℕ) (w : Why) → First (waveTable file) w → waveOf file ≡ []
 unfolding waveOf
 wave-refused file w f = rw (wave-table file .refused-when w .1 f)
 
-pub sound-refusal-stored : Every call.soundRefusal λ run. StoredBy run (waveRows (run .file)) [] refusedLine
-unfolding waveRefusal
+pub sound-refusal-stored : Every call.soundRefusal λ run. StoredBy run (soundTable (run .of)) [] refusedLine
+unfolding soundRefusal
 sound-refusal-stored κs a x s p =
-    let run : PieceRun = call.soundRefusal .seen κs a x s in
-    piece run refusalFor (wave-table (run .file)) p
+    let run : PieceRun Registers = call.soundRefusal .seen κs a x s in
+    piece run refusalBy (sound-table (run .of)) p

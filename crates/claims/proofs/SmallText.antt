@@ -8,10 +8,9 @@ use Rattle.buffers.specs.Words.{bytesOf, wordsOf}
 use Rattle.buffers.specs.Values.{valuesFrom}
 use Rattle.refusals.specs.Table.{given}
 use Rattle.registers.specs.Record.{reserved, fresh, storedOf}
-use Rattle.registers.specs.Load.{leading, applied, loadTold}
+use Rattle.registers.specs.Load.{leading, applied}
 use Rattle.registers.specs.Lowest.{lowest}
 use Rattle.registers.specs.Setting.{settingOf, videoWords, cursorWords}
-use Rattle.registers.specs.Check.{checkTold}
 use Rattle.registers.specs.Small.{smallWords, smallRegisters}
 use Rattle.registers.specs.declared.setting.Setting.{Setting}
 use Rattle.cells.specs.Pixel.{pixel}
@@ -22,12 +21,15 @@ use Rattle.frame.specs.Frame.{frameCell, rasterCell}
 use Rattle.marks.specs.Count.{total}
 use Rattle.marks.specs.Marks.{marksOf}
 use Rattle.plates.specs.Plate.{plateOf}
-use Rattle.plates.specs.Read.{readTold}
-use Rattle.runs.specs.Decimal.{digits, decimal}
-use Rattle.runs.specs.Runs.{codeOf, run}
-use Rattle.runs.specs.Sheet.{registerWords, videoList, cursorList, registersOf, takenTold, sheetTold}
-use Rattle.runs.specs.Text.{labelled, headLine, rasterLine, pictureHead, pictureLine, lineAt, firstLines, textOf}
-use Rattle.runs.proofs.Spread.{Codes, _of_, spread, Apart, runsText, line-spread}
+use Rattle.outputs.specs.Decimal.{digits, decimal}
+use Rattle.outputs.specs.Runs.{codeOf, run}
+use Rattle.sheets.specs.Sheet.{registerWords, videoList, cursorList, registersOf}
+use Rattle.sheets.specs.Input.{inputTold}
+use Rattle.cells.specs.Picture.{pictureTold}
+use Rattle.outputs.specs.Sheet.{sheetTold}
+use Rattle.outputs.specs.Text.{labelled, headLine, rasterLine, pictureHead, pictureLine, firstLines, textBy, textOf}
+use Rattle.outputs.proofs.Sheets.{sheet-taken}
+use Rattle.outputs.proofs.Spread.{Codes, _of_, spread, Apart, runsText, line-spread}
 use Rattle.claims.specs.Marked.{smallVideo}
 use Rattle.claims.specs.SmallText.{smallPlate, smallText, bytes}
 
@@ -51,16 +53,12 @@ cursor-back = refl
 abbrev small : Setting
 small = settingOf smallRegisters
 
-small-setting : checkTold smallRegisters ≡ given small
-unfolding reserved storedOf applied lowest settingOf checkTold
-small-setting = refl
-
 small-picture : pictureTold smallRegisters smallVideo [] ≡ given small
-unfolding reserved storedOf applied settingOf videoWords cursorWords
-small-picture = picture-given smallRegisters smallVideo [] small small-setting refl refl
+unfolding reserved storedOf applied lowest settingOf videoWords cursorWords pictureTold
+small-picture = refl
 
-small-taken : takenTold smallPlate ≡ given tt
-unfolding reserved plateOf bytesOf wordsOf registerWords leading loadTold readTold takenTold
+small-taken : inputTold smallPlate ≡ given tt
+unfolding reserved plateOf bytesOf wordsOf registerWords leading inputTold
 small-taken = refl
 
 small-registers : registersOf smallPlate ≡ smallRegisters
@@ -68,8 +66,7 @@ unfolding registersOf
 small-registers = ap (applied fresh) registers-back
 
 small-told : sheetTold smallPlate ≡ given small
-unfolding sheetTold
-small-told = rw (small-taken, small-registers, video-back, cursor-back) small-picture
+small-told = sheet-taken smallPlate small-taken ∙ rw (small-registers, video-back, cursor-back) small-picture
 
 -- The head: no cell of the frame is a mark.
 head : pictureHead smallRegisters small smallVideo [] ≡ bytes "frame 32 6 words 1 marks 0\n"
@@ -99,12 +96,19 @@ rasters = (
   raster 5 (4 of 1) ((28 of 0) ∷ []) refl (refl, tt),
 )
 
--- Line k of the plate's text.
-line : (k : ℕ) → lineAt smallPlate k ≡ pictureLine smallRegisters small smallVideo [] k
-unfolding lineAt
-line k = rw (small-told, small-registers, video-back, cursor-back)
+-- The lines of the picture.
+lines :
+    (pictureLine smallRegisters small smallVideo [] 0 ≡ bytes "frame 32 6 words 1 marks 0\n")
+    × (pictureLine smallRegisters small smallVideo [] 1 ≡ bytes "3x4 2x28\n")
+    × (pictureLine smallRegisters small smallVideo [] 2 ≡ bytes "1x4 0x28\n")
+    × (pictureLine smallRegisters small smallVideo [] 3 ≡ bytes "1x4 0x3 4x16 0x9\n")
+    × (pictureLine smallRegisters small smallVideo [] 4 ≡ bytes "1x4 0x3 4x4 5x8 4x4 0x9\n")
+    × (pictureLine smallRegisters small smallVideo [] 5 ≡ bytes "1x4 0x3 4x16 0x9\n")
+    × (pictureLine smallRegisters small smallVideo [] 6 ≡ bytes "1x4 0x28\n")
+unfolding reserved storedOf applied settingOf pictureLine
+lines = (head, rasters .0, rasters .1, rasters .2, rasters .3, rasters .4, rasters .5)
 
 pub small-text : textOf smallPlate ≡ smallText
-unfolding reserved storedOf applied settingOf pictureLine firstLines textOf
+unfolding reserved storedOf applied settingOf firstLines textBy textOf
 small-text =
-    rw (small-told, line 0 ∙ head, line 1 ∙ rasters .0, line 2 ∙ rasters .1, line 3 ∙ rasters .2, line 4 ∙ rasters .3, line 5 ∙ rasters .4, line 6 ∙ rasters .5)
+    rw (small-told, small-registers, video-back, cursor-back, lines .0, lines .1, lines .2, lines .3, lines .4, lines .5, lines .6)

@@ -5,7 +5,7 @@ use lib.Dec.{ltb}
 use lib.ListN.{length}
 use Rattle.refusals.specs.Table.{Row, row}
 use Rattle.registers.specs.declared.record.Registers.{Registers}
-use Rattle.runs.specs.Text.{textOf}
+use Rattle.outputs.specs.Text.{textOf}
 use Rattle.vombelishi.specs.Record.{lacking, recordOf}
 
 -- A call of a record: 13 for a slice shorter than 64, then the call's own table of the record that the two slices hold.

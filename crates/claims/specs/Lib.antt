@@ -5,7 +5,6 @@ pub mod Views
 pub mod Framed
 pub mod RoundTrip
 pub mod Pieces
-pub mod Rows
 pub mod CRows
 pub mod CViews
 pub mod Marked

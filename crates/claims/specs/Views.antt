@@ -3,8 +3,8 @@ use Prim.Native.Nat.{ℕ}
 use mathlib.Core.List.{List}
 use lib.IntN.{ℤ}
 use denote.Ref.{ptr, now}
-use Rattle.refusals.specs.Table.{Told}
-use Rattle.refusals.specs.Refusals.{answerSays}
+use Rattle.refusals.specs.Table.{Why, Told}
+use Rattle.refusals.specs.Refusals.{answerSays, whyOf}
 use Rattle.registers.specs.Check.{checkSays}
 use Rattle.registers.specs.declared.record.Registers.{Registers}
 use Rattle.registers.specs.declared.setting.Setting.{Setting}
@@ -48,14 +48,23 @@ use Rattle.plates.proofs.copy_out.Kinds as copy-kinds
 use Rattle.plates.proofs.copy_out.Reads as copy-reads
 use Rattle.plates.proofs.write.Kinds as write-kinds
 use Rattle.plates.proofs.write.Reads as write-reads
-use Rattle.runs.proofs.text.line.Kinds as line-kinds
-use Rattle.runs.proofs.text.line.Reads as line-reads
-use Rattle.runs.proofs.strips.strip.Kinds as strip-kinds
-use Rattle.runs.proofs.strips.strip.Reads as strip-reads
-use Rattle.runs.proofs.blocks.block.Kinds as block-kinds
-use Rattle.runs.proofs.blocks.block.Reads as block-reads
-use Rattle.runs.proofs.blocks.refusal.Kinds as refusal-kinds
-use Rattle.runs.proofs.blocks.refusal.Reads as refusal-reads
+use Rattle.sheets.specs.declared.Parts.{Parts}
+use Rattle.sheets.proofs.take.Kinds as take-kinds
+use Rattle.sheets.proofs.take.Reads as take-reads
+use Rattle.sheets.proofs.input.take_input.Kinds as take-input-kinds
+use Rattle.sheets.proofs.input.take_input.Reads as take-input-reads
+use Rattle.outputs.proofs.text.refused.Kinds as refused-kinds
+use Rattle.outputs.proofs.text.refused.Reads as refused-reads
+use Rattle.outputs.proofs.whole.text.Kinds as text-kinds
+use Rattle.outputs.proofs.whole.text.Reads as text-reads
+use Rattle.outputs.proofs.text.line.Kinds as line-kinds
+use Rattle.outputs.proofs.text.line.Reads as line-reads
+use Rattle.outputs.proofs.strips.strip.Kinds as strip-kinds
+use Rattle.outputs.proofs.strips.strip.Reads as strip-reads
+use Rattle.outputs.proofs.blocks.block.Kinds as block-kinds
+use Rattle.outputs.proofs.blocks.block.Reads as block-reads
+use Rattle.outputs.proofs.blocks.refusal.Kinds as refusal-kinds
+use Rattle.outputs.proofs.blocks.refusal.Reads as refusal-reads
 use Rattle.claims.specs.Calls.{Call, call}
 
 -- Loading one word, or a list.
@@ -252,26 +261,84 @@ write = call 5 write-kinds.ps write-kinds.r write-reads.Post WriteRun
       after = now (s .1 .1 .1 .1 .0);
     }
 
--- What the programs write of a plate: line, strip or block k, and how many bytes it has; the one line that refuses its sound.
-pub record PieceRun : Type 0 where
+-- A plate taken apart, from a file or from standard input.
+pub record TakeRun : Type 0 where
   pub file : List ℕ
+  pub answer : Told (Unit {0})
+  pub parts : Parts
+  pub before : List ℕ
+  pub after : List ℕ
+
+abbrev pub take : Call
+take = call 2 take-kinds.ps take-kinds.r take-reads.Post TakeRun
+    λ κs a x s. record { file = now (a .0); answer = answerSays (x .answer); parts = x .parts; before = now (a .1 .0); after = now (s .1 .0) }
+
+abbrev pub takeInput : Call
+takeInput = call 2 take-input-kinds.ps take-input-kinds.r take-input-reads.Post TakeRun
+    λ κs a x s. record { file = now (a .0); answer = answerSays (x .answer); parts = x .parts; before = now (a .1 .0); after = now (s .1 .0) }
+
+-- What is written of a picture, its line or strip k or its whole text, and of a sound, its block k; and the line that refuses.
+pub record PictureLists : Type 0 where
+  pub registers : Registers
+  pub video : List ℕ
+  pub cursor : List ℕ
+
+pub record SoundWords : Type 0 where
+  pub registers : Registers
+  pub words : List ℕ
+
+-- A piece with a number, and how many bytes it has.
+pub record PieceRun (A : Type 0) : Type 0 where
+  pub of : A
   pub index : ℕ
   pub bytes : ℕ
   pub before : List ℕ
   pub after : List ℕ
 
 abbrev pub line : Call
-line = call 2 line-kinds.ps line-kinds.r line-reads.Post PieceRun
-    λ κs a x s. record { file = now (a .0); index = a .1 .0; bytes = x; before = now (a .1 .1 .0); after = now (s .1 .1 .0) }
+line = call 3 line-kinds.ps line-kinds.r line-reads.Post (PieceRun PictureLists)
+    λ κs a x s. record {
+      of = record { registers = a .0; video = now (a .1 .0); cursor = now (a .1 .1 .0) };
+      index = a .1 .1 .1 .0;
+      bytes = x;
+      before = now (a .1 .1 .1 .1 .0);
+      after = now (s .1 .1 .1 .1 .0);
+    }
 
 abbrev pub strip : Call
-strip = call 2 strip-kinds.ps strip-kinds.r strip-reads.Post PieceRun
-    λ κs a x s. record { file = now (a .0); index = a .1 .0; bytes = x; before = now (a .1 .1 .0); after = now (s .1 .1 .0) }
+strip = call 3 strip-kinds.ps strip-kinds.r strip-reads.Post (PieceRun PictureLists)
+    λ κs a x s. record {
+      of = record { registers = a .0; video = now (a .1 .0); cursor = now (a .1 .1 .0) };
+      index = a .1 .1 .1 .0;
+      bytes = x;
+      before = now (a .1 .1 .1 .1 .0);
+      after = now (s .1 .1 .1 .1 .0);
+    }
+
+abbrev pub text : Call
+text = call 3 text-kinds.ps text-kinds.r text-reads.Post (PieceRun PictureLists)
+    λ κs a x s. record {
+      of = record { registers = a .0; video = now (a .1 .0); cursor = now (a .1 .1 .0) };
+      index = 0;
+      bytes = x;
+      before = now (a .1 .1 .1 .0);
+      after = now (s .1 .1 .1 .0);
+    }
 
 abbrev pub block : Call
-block = call 2 block-kinds.ps block-kinds.r block-reads.Post PieceRun
-    λ κs a x s. record { file = now (a .0); index = a .1 .0; bytes = x; before = now (a .1 .1 .0); after = now (s .1 .1 .0) }
+block = call 2 block-kinds.ps block-kinds.r block-reads.Post (PieceRun SoundWords)
+    λ κs a x s. record {
+      of = record { registers = a .0; words = now (a .1 .0) };
+      index = a .1 .1 .0;
+      bytes = x;
+      before = now (a .1 .1 .1 .0);
+      after = now (s .1 .1 .1 .0);
+    }
 
 abbrev pub soundRefusal : Call
-soundRefusal = call 2 refusal-kinds.ps refusal-kinds.r refusal-reads.Post PieceRun
-    λ κs a x s. record { file = now (a .0); index = 0; bytes = x; before = now (a .1 .0); after = now (s .1 .0) }
+soundRefusal = call 1 refusal-kinds.ps refusal-kinds.r refusal-reads.Post (PieceRun Registers)
+    λ κs a x s. record { of = a .0; index = 0; bytes = x; before = now (a .1 .0); after = now (s .1 .0) }
+
+abbrev pub refusedLine : Call
+refusedLine = call 1 refused-kinds.ps refused-kinds.r refused-reads.Post (PieceRun Why)
+    λ κs a x s. record { of = whyOf (a .0); index = 0; bytes = x; before = now (a .1 .0); after = now (s .1 .0) }

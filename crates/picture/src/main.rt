@@ -1,12 +1,19 @@
-// A plate on standard input, its picture on standard output as a binary PPM file. All that matters is proved in `runs`.
+// A plate on standard input, its picture on standard output as a binary PPM file. All that matters is proved in `sheets` and `outputs`.
 use libc::STDERR_FILENO;
 use libc::STDIN_FILENO;
 use libc::STDOUT_FILENO;
+use refusals::Answer;
+use refusals::Refusal;
+use registers::record::Registers;
+use sheets::Parts;
+use sheets::input::take_input;
+ghost use Prim.Native.Nat.{_≤_};
+ghost use lib.ListN.{length};
 
 // Writes strip k of the picture, and answers whether there may be more.
-fn show_strip(plate: &[u8], k: usize) -> bool {
+fn show_strip(g: Registers, video: &[u32], cursor: &[u32], k: usize) -> bool {
     let mut bytes = [0u8; 6144];
-    let n = runs::strips::strip(plate, k, &mut bytes);
+    let n = outputs::strips::strip(g, video, cursor, k, &mut bytes);
     if n == 0 {
         return false;
     }
@@ -18,23 +25,62 @@ fn show_strip(plate: &[u8], k: usize) -> bool {
 }
 
 // All strips. No frame has more than 1,024 rasters; the head comes before them.
-fn show(plate: &[u8]) {
+fn show(g: Registers, video: &[u32], cursor: &[u32]) {
     let mut k = 0;
-    while k < 1025 && show_strip(plate, k) {
+    while k < 1025 && show_strip(g, video, cursor, k) {
         k += 1;
     }
 }
 
-// A refused plate has no head; its line of text says why.
-fn is_refused(plate: &[u8]) -> bool {
+// A refused picture has no head.
+fn is_refused(g: Registers, video: &[u32], cursor: &[u32]) -> bool {
     let mut bytes = [0u8; 6144];
-    runs::strips::strip(plate, 0, &mut bytes) == 0
+    outputs::strips::strip(g, video, cursor, 0, &mut bytes) == 0
 }
 
-fn say_refused(plate: &[u8]) {
+// The first line of its text says why it is refused.
+fn say_refused(g: Registers, video: &[u32], cursor: &[u32]) {
     let mut text = [0u8; 8256];
-    let n = runs::text::line(plate, 0, &mut text);
+    let n = outputs::text::line(g, video, cursor, 0, &mut text);
     io::write_all(STDERR_FILENO, &text[..n]);
+}
+
+fn show_picture(g: Registers, video: &[u32], cursor: &[u32]) {
+    if is_refused(g, video, cursor) {
+        say_refused(g, video, cursor);
+        return;
+    }
+    show(g, video, cursor);
+}
+
+fn show_parts(parts: Parts, words: &[u32])
+    requires { ⌜ (parts .video ≤ parts .cursor) × (parts .cursor ≤ parts .sound) × (parts .sound ≤ length (now words)) ⌝ }
+{
+    let video = parts.video;
+    let cursor = parts.cursor;
+    let sound = parts.sound;
+    show_picture(
+        parts.registers,
+        &words[video..cursor],
+        &words[cursor..sound],
+    );
+}
+
+// Why a plate is not taken apart.
+fn say_untaken(why: Refusal) {
+    let mut text = [0u8; 64];
+    let n = outputs::text::refused(why, &mut text);
+    io::write_all(STDERR_FILENO, &text[..n]);
+}
+
+fn show_plate(plate: &[u8]) {
+    let mut words = [0u32; 16384];
+    let taken = take_input(plate, &mut words);
+    let answer = taken.answer;
+    match answer {
+        Answer::Refused(why) => say_untaken(why),
+        Answer::Done => show_parts(taken.parts, &words),
+    }
 }
 
 fn main() {
@@ -49,9 +95,5 @@ fn main() {
             return;
         }
     }
-    if is_refused(&plate[..n]) {
-        say_refused(&plate[..n]);
-        return;
-    }
-    show(&plate[..n]);
+    show_plate(&plate[..n]);
 }

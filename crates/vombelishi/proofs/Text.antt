@@ -1,49 +1,73 @@
--- The call for a text: its lines are stored one after another, each where those before it end, so that together they are the text.
-use Prim.Native.Nat.{ℕ, _+_, _-_, _≤_, _<_}
+-- The call for a text: it is stored whole where it fits, and since it has at least a byte, none stored tells that it does not.
+use Prim.Native.Nat.{ℕ, _≤_, _<_}
 use mathlib.Core.Path.{_≡_, sym, _∙_, ap}
+use mathlib.Core.Bool.{Bool, true, false}
 use mathlib.Core.List.{List, []}
-use native.Mathlib.Nat.{zero-add}
+use mathlib.Core.Logic.{_⊎_, inl, inr}
 use native.Mathlib.Omega.{arith}
 use borrow.Author.Tests.{lt-ltb, le-ltb}
-use lib.ListN.{length, take, drop}
-use lib.Seq.{sets, sets-eq, take-append-seam}
+use lib.ListN.{length}
+use lib.Seq.{sets}
 use Rattle.buffers.specs.Put.{Put}
-use Rattle.buffers.proofs.Sets.{sets-append}
+use Rattle.buffers.proofs.Split.{lt-or-le}
 use Rattle.refusals.specs.Table.{why, given, refused}
-use Rattle.runs.specs.Sheet.{sheetTold}
-use Rattle.runs.specs.Text.{lineAt, linesFor, firstLines, textOf}
-use Rattle.runs.proofs.Texts.{no-more}
-use Rattle.runs.proofs.Lines.{last-line, lines-next, all-lines}
+use Rattle.refusals.specs.Refusals.{answerSays, whyOf}
+use Rattle.refusals.specs.declared.Refusal.{Refusal}
+use Rattle.refusals.specs.declared.Answer.the-variants as answer
+use Rattle.sheets.specs.Sheet.{part, registersOf, videoList, cursorList}
+use Rattle.sheets.specs.Input.{inputTold, inputParts, inputLeaves}
+use Rattle.sheets.specs.declared.Taken.{Taken}
+use Rattle.sheets.proofs.Sheets.{Held, input-given, input-refused, input-held}
+use Rattle.outputs.specs.Sheet.{sheetTold}
+use Rattle.outputs.specs.Text.{refusedLine, pictureText, textBy, textOf, textIn}
+use Rattle.outputs.proofs.Lines.{some-text}
+use Rattle.outputs.proofs.Sheets.{text-untaken, text-taken}
+use Rattle.outputs.proofs.Texts.{text-short, text-fits}
 use Rattle.vombelishi.specs.Texts.{textCall}
 
--- The bytes of a line that was stored.
-pub line-bytes : (o p vs : List ℕ) (n : ℕ) → Put o p 0 vs n → take (n - 0) (drop 0 p) ≡ vs
-line-bytes o p vs n put =
-    let e : n - 0 ≡ length vs = omega (arith, put .after) in
-    let f : 0 + length vs ≤ length o = omega (arith, put .after, put .inside) in
-    rw (e, put .stored, sets-eq vs o 0 f) (take-append-seam vs _)
+-- What was taken apart has the file's text.
+module _ (file o new : List ℕ) (z : Taken)
+    (t : (answerSays (z .answer) ≡ inputTold file) × (z .parts ≡ inputParts file) × (new ≡ inputLeaves file o)) where
+  pub text-refused : (w : Refusal) → z .answer ≡ answer.Refused w → textOf file ≡ refusedLine (whyOf w)
+  text-refused w q = text-untaken file (whyOf w) (input-refused file o new z t w q)
 
-module _ (file : List ℕ) where
-  -- One line more, stored after those before it.
-  pub lines-stored : (o p q : List ℕ) (k at : ℕ) → p ≡ sets o 0 (firstLines file k) → at ≡ length (firstLines file k)
-      → q ≡ sets p at (lineAt file k) → q ≡ sets o 0 (firstLines file (k + 1))
-  lines-stored o p q k at a b d =
-      d ∙ (rw (a, b, lines-next) (sym (rw zero-add at (sets-append o 0 (firstLines file k) (lineAt file k)))))
+  pub text-held : 16384 ≤ length o → z .answer ≡ answer.Done
+      → pictureText (z .parts .registers) (part new (z .parts .video) (z .parts .cursor)) (part new (z .parts .cursor) (z .parts .sound)) ≡ textOf file
+  text-held room q =
+      let h = input-held file o new z t room q in
+      rw (h .registers, h .video, h .cursor) (sym (text-taken file (input-given file o new z t q)))
 
-  -- Nothing is left to store.
-  pub lines-done : (o p q : List ℕ) (k at n : ℕ) → p ≡ sets o 0 (firstLines file k) → k ≤ linesFor (sheetTold file)
-      → q ≡ sets p at (lineAt file k) → n ≡ length (lineAt file k) → n ≡ 0 → q ≡ sets o 0 (textOf file)
-  lines-done o p q k at n a h d e z =
-      let last = last-line file k h (sym e ∙ z) in
-      let none : lineAt file k ≡ [] = no-more file k (omega arith) in
-      d ∙ (rw none (a ∙ ap (sets o 0) (all-lines file k last)))
+-- The call: what was put, of a text that has at least a byte.
+module _ (file text after : List ℕ) (n : ℕ) (put : Put text after 0 (textIn (length text) (textOf file)) n) where
+  some : 1 ≤ length (textOf file)
+  unfolding textOf
+  some = some-text (registersOf file) (videoList file) (cursorList file) (sheetTold file)
 
--- The call: a text of n bytes.
-module _ (file text : List ℕ) (n : ℕ) (e : n ≡ length (textOf file)) where
-  pub text-short : length text < n → textCall file (length text) ≡ refused (why 13 0)
+  none-fits : n ≡ 0 → length text < length (textOf file)
+  none-fits z = elim (lt-or-le (length text) (length (textOf file))) [
+    | inl l ↦ l
+    | inr l ↦ absurd (let e = ap length (text-fits (length text) (textOf file) l) in omega (arith, put .after, some))
+  ]
+
+  all-fits : (n ≡ 0 → ⊥) → length (textOf file) ≤ length text
+  all-fits z = elim (lt-or-le (length text) (length (textOf file))) [
+    | inl l ↦ absurd (z (let e = ap length (text-short (length text) (textOf file) l) in omega (arith, put .after)))
+    | inr l ↦ l
+  ]
+
+  pub told-short : n ≡ 0 → textCall file (length text) ≡ refused (why 13 0)
   unfolding textCall
-  text-short h = rw (lt-ltb (length text) (length (textOf file)) (rw e at h))
+  told-short z = rw (lt-ltb (length text) (length (textOf file)) (none-fits z))
 
-  pub text-given : n ≤ length text → textCall file (length text) ≡ given n
+  pub told-given : (n ≡ 0 → ⊥) → textCall file (length text) ≡ given n
   unfolding textCall
-  text-given h = rw (le-ltb (length text) (length (textOf file)) (rw e at h), e)
+  told-given z =
+      let f = all-fits z in
+      let e : n ≡ length (textOf file) = omega (arith, put .after, ap length (text-fits (length text) (textOf file) f)) in
+      rw (le-ltb (length text) (length (textOf file)) f, e)
+
+  pub left-short : n ≡ 0 → after ≡ text
+  left-short z = put .stored ∙ rw (text-short (length text) (textOf file) (none-fits z))
+
+  pub left-given : (n ≡ 0 → ⊥) → after ≡ sets text 0 (textOf file)
+  left-given z = put .stored ∙ rw (text-fits (length text) (textOf file) (all-fits z))

@@ -5,7 +5,7 @@ use lib.Dec.{ltb}
 use lib.ListN.{length}
 use lib.Seq.{sets}
 use Rattle.refusals.specs.Table.{Told, row, judged, unlessRefused}
-use Rattle.runs.specs.Text.{textOf}
+use Rattle.outputs.specs.Text.{textOf}
 
 -- A text to be stored in some places; its length is given.
 unfoldable pub textCall : List ℕ → ℕ → Told ℕ

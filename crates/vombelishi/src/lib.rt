@@ -2,7 +2,6 @@
 mod code;
 pub mod files;
 pub mod levels;
-mod lines;
 pub mod loads;
 pub mod pictures;
 mod put;

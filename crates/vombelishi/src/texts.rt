@@ -1,53 +1,53 @@
-// The printer's text, whole: measured by one pass over its lines, and written by another.
+// The printer's text of a plate file, whole.
 use crate::code::SHORT;
-use crate::lines::measure_line;
-use crate::lines::put_line;
+use refusals::Answer;
+use sheets::Parts;
+use sheets::input::take_input;
 ghost use mathlib.Core.Path.{_≡_};
 ghost use Prim.Native.Nat.{_≤_};
 ghost use lib.ListN.{length};
-ghost use lib.Seq.{sets};
-ghost use Rattle.runs.specs.Text.{textOf};
+ghost use Rattle.buffers.specs.Put.{Put};
+ghost use Rattle.sheets.specs.Sheet.{part};
+ghost use Rattle.outputs.specs.Text.{pictureText, textOf, textIn};
 ghost use Rattle.vombelishi.specs.Code.{answerCode, cellBy};
 ghost use Rattle.vombelishi.specs.Texts.{textCall, textLeaves};
 
-// The head, and a line for each of 1,024 rasters at most.
-const MOST_LINES: usize = 1025;
-
-// How many bytes the text has. A line of no bytes stands after the last.
-fn measure(file: &[u8]) -> usize
-    ensures { λ r. ⌜ r ≡ length (textOf (now (file .entry))) ⌝ }
+// The text of a plate that was taken apart, its words in order.
+fn put_parts(parts: Parts, words: &[u32], out: &mut [u8]) -> usize
+    requires { ⌜ (parts .video ≤ parts .cursor) × (parts .cursor ≤ parts .sound) × (parts .sound ≤ length (now words)) ⌝ }
+    ensures { λ r. ⌜
+        Put (now (out .entry)) (now (out .exit)) 0
+        (textIn (length (now (out .entry)))
+        (pictureText (parts .registers) (part (now (words .entry)) (parts .video) (parts .cursor))
+        (part (now (words .entry)) (parts .cursor) (parts .sound)))) r
+        ⌝ }
 {
-    let mut total = 0;
-    let mut k = 0;
-    while k < MOST_LINES {
-        let n = measure_line(file, k);
-        if n == 0 {
-            return total;
-        }
-        total += n;
-        k += 1;
-    }
-    total
+    let video = parts.video;
+    let cursor = parts.cursor;
+    let sound = parts.sound;
+    outputs::whole::text(
+        parts.registers,
+        &words[video..cursor],
+        &words[cursor..sound],
+        out,
+    )
 }
 
-// All lines stored, one after another.
-fn put_text(file: &[u8], out: &mut [u8])
-    requires { ⌜ length (textOf (now file)) ≤ length (now out) ⌝ }
-    ensures { λ _. ⌜ now (out .exit) ≡ sets (now (out .entry)) 0 (textOf (now (file .entry))) ⌝ }
+// The text, refused or not, and its length; no bytes where it does not fit. The plate is taken apart once.
+fn put_text(file: &[u8], out: &mut [u8]) -> usize
+    ensures { λ r. ⌜ Put (now (out .entry)) (now (out .exit)) 0 (textIn (length (now (out .entry))) (textOf (now (file .entry)))) r ⌝ }
 {
-    let mut at = 0;
-    let mut k = 0;
-    while k < MOST_LINES {
-        let n = put_line(file, k, out, at);
-        if n == 0 {
-            return;
-        }
-        at += n;
-        k += 1;
+    let mut words = [0u32; 16384];
+    let taken = take_input(file, &mut words);
+    let answer = taken.answer;
+    let parts = taken.parts;
+    match answer {
+        Answer::Refused(why) => outputs::text::refused(why, out),
+        Answer::Done => put_parts(parts, &words, out),
     }
 }
 
-// The text of a plate file, refused or not, and its length; 13 for `text`.
+// The text of a plate file, refused or not, and its length; 13 for `text`. A text has at least a byte.
 #[no_mangle]
 pub extern "C" fn vom_text(file: &[u8], text: &mut [u8], size: &mut u64) -> u64
     ensures { λ r. ⌜
@@ -56,11 +56,10 @@ pub extern "C" fn vom_text(file: &[u8], text: &mut [u8], size: &mut u64) -> u64
         × (now (size .exit) ≡ cellBy (textCall (now (file .entry)) (length (now (text .entry)))) (now (size .entry)))
         ⌝ }
 {
-    let n = measure(file);
-    if text.len() < n {
+    let n = put_text(file, text);
+    if n == 0 {
         return SHORT;
     }
-    put_text(file, text);
     *size = n as u64;
     0
 }

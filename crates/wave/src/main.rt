@@ -1,12 +1,19 @@
-// A plate on standard input, its sound on standard output as a WAV file. All that matters is proved in `runs`.
+// A plate on standard input, its sound on standard output as a WAV file. All that matters is proved in `sheets` and `outputs`.
 use libc::STDERR_FILENO;
 use libc::STDIN_FILENO;
 use libc::STDOUT_FILENO;
+use refusals::Answer;
+use refusals::Refusal;
+use registers::record::Registers;
+use sheets::Parts;
+use sheets::input::take_input;
+ghost use Prim.Native.Nat.{_≤_};
+ghost use lib.ListN.{length};
 
 // Writes block k of the file, and answers whether there may be more.
-fn play_block(plate: &[u8], k: usize) -> bool {
+fn play_block(g: Registers, words: &[u32], k: usize) -> bool {
     let mut bytes = [0u8; 4096];
-    let n = runs::blocks::block(plate, k, &mut bytes);
+    let n = outputs::blocks::block(g, words, k, &mut bytes);
     if n == 0 {
         return false;
     }
@@ -18,18 +25,45 @@ fn play_block(plate: &[u8], k: usize) -> bool {
 }
 
 // All blocks: the head, and at most 64 of samples.
-fn play(plate: &[u8]) {
+fn play(g: Registers, words: &[u32]) {
     let mut k = 0;
-    while k < 65 && play_block(plate, k) {
+    while k < 65 && play_block(g, words, k) {
         k += 1;
     }
 }
 
-// The line that refuses the plate's sound, which has no block; nothing where it is not refused.
-fn say_refused(plate: &[u8]) {
+// The line that refuses the sound, which has no block; nothing where it is not refused.
+fn say_refused(g: Registers) {
     let mut text = [0u8; 64];
-    let n = runs::blocks::refusal(plate, &mut text);
+    let n = outputs::blocks::refusal(g, &mut text);
     io::write_all(STDERR_FILENO, &text[..n]);
+}
+
+fn play_parts(parts: Parts, words: &[u32])
+    requires { ⌜ (parts .sound ≤ parts .end) × (parts .end ≤ length (now words)) ⌝ }
+{
+    let g = parts.registers;
+    let sound = parts.sound;
+    let end = parts.end;
+    say_refused(g);
+    play(g, &words[sound..end]);
+}
+
+// Why a plate is not taken apart.
+fn say_untaken(why: Refusal) {
+    let mut text = [0u8; 64];
+    let n = outputs::text::refused(why, &mut text);
+    io::write_all(STDERR_FILENO, &text[..n]);
+}
+
+fn play_plate(plate: &[u8]) {
+    let mut words = [0u32; 16384];
+    let taken = take_input(plate, &mut words);
+    let answer = taken.answer;
+    match answer {
+        Answer::Refused(why) => say_untaken(why),
+        Answer::Done => play_parts(taken.parts, &words),
+    }
 }
 
 fn main() {
@@ -44,6 +78,5 @@ fn main() {
             return;
         }
     }
-    say_refused(&plate[..n]);
-    play(&plate[..n]);
+    play_plate(&plate[..n]);
 }

@@ -16,14 +16,14 @@ fn rate_of(frequency: u8) -> u32
 }
 
 // The head's eleven words.
-fn head_words(frequency: u8, words: u16) -> [u32; 11]
+fn head_words(frequency: u8, words: usize) -> [u32; 11]
     ensures { λ r. ⌜ r ≡ headWords (rateOf frequency) words ⌝ }
 {
     let rate = rate_of(frequency);
-    let bytes = 16 * words as u32;
+    let bytes = 16 * (words as u64 % 0x1000_0000);
     [
         0x4646_4952,
-        36 + bytes,
+        ((36 + bytes) % 0x1_0000_0000) as u32,
         0x4556_4157,
         0x2074_6D66,
         16,
@@ -32,7 +32,7 @@ fn head_words(frequency: u8, words: u16) -> [u32; 11]
         4 * rate,
         0x0010_0004,
         0x6174_6164,
-        bytes,
+        bytes as u32,
     ]
 }
 
@@ -50,7 +50,7 @@ fn put_words(out: &mut [u8], words: &[u32])
 }
 
 // The head of a file of some sound words in lent memory, and its length; none where it does not fit.
-pub fn head(frequency: u8, words: u16, out: &mut [u8]) -> usize
+pub fn head(frequency: u8, words: usize, out: &mut [u8]) -> usize
     ensures { λ r. ⌜ Put (now (out .entry)) (now (out .exit)) 0 (headIn (length (now (out .entry))) frequency words) r ⌝ }
 {
     if out.len() < 44 {

@@ -1,5 +1,6 @@
-use native.Mathlib.Omega.{arith}
+-- A line lies within the memory that it was put into.
 use mathlib.Core.Path.{sym, ap}
+use native.Mathlib.Omega.{arith}
 use lib.ListN.{length}
 use lib.Seq.{length-sets, length-take-le}
 use borrow.Author.Needs.{needs}
@@ -10,10 +11,14 @@ line-requires : tie.Need-line-requires
 line-requires c κs = search needs
 
 array-share-prefix-text : tie.Need-array-share-prefix-text
-array-share-prefix-text c = omega (arith, c .line .ensures .inside, simp length-sets at (ap length (c .line .ensures .stored)))
+array-share-prefix-text c =
+    let put = c .line .ensures in
+    omega (arith, put .inside, simp length-sets at (ap length (put .stored)))
 
 slice-aggregate-write-all : tie.Need-slice-aggregate-write-all
-slice-aggregate-write-all c = sym (length-take-le (c .before .line .result) _ (omega (arith, c .before .line .ensures .inside, simp length-sets at (ap length (c .before .line .ensures .stored)))))
+slice-aggregate-write-all c =
+    let put = c .before .line .ensures in
+    sym (length-take-le (c .before .line .result) _ (omega (arith, put .inside, simp length-sets at (ap length (put .stored)))))
 
 write-all-requires : tie.Need-write-all-requires
 write-all-requires c κs = search needs

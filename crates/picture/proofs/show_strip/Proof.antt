@@ -1,7 +1,8 @@
-use lib.Seq.{length-sets, length-take-le}
-use lib.ListN.{length}
+-- A strip lies within the memory that it was put into.
 use mathlib.Core.Path.{sym, ap}
 use native.Mathlib.Omega.{arith}
+use lib.ListN.{length}
+use lib.Seq.{length-sets, length-take-le}
 use borrow.Author.Needs.{needs}
 use Rattle.picture.proofs.show_strip.Statement.{statement}
 use Rattle.picture.proofs.show_strip.Tie as tie
@@ -13,10 +14,14 @@ returns : tie.Need-returns
 returns c = search needs
 
 array-share-prefix-bytes : tie.Need-array-share-prefix-bytes
-array-share-prefix-bytes c = omega (arith, c .before .strip .ensures .inside, simp length-sets at (ap length (c .before .strip .ensures .stored)))
+array-share-prefix-bytes c =
+    let put = c .before .strip .ensures in
+    omega (arith, put .inside, simp length-sets at (ap length (put .stored)))
 
 slice-aggregate-write-all : tie.Need-slice-aggregate-write-all
-slice-aggregate-write-all c = sym (length-take-le (c .before .before .strip .result) _ (omega (arith, c .before .before .strip .ensures .inside, simp length-sets at (ap length (c .before .before .strip .ensures .stored)))))
+slice-aggregate-write-all c =
+    let put = c .before .before .strip .ensures in
+    sym (length-take-le (c .before .before .strip .result) _ (omega (arith, put .inside, simp length-sets at (ap length (put .stored)))))
 
 write-all-requires : tie.Need-write-all-requires
 write-all-requires c κs = search needs

@@ -1,13 +1,14 @@
-use borrow.Author.Needs.{needs}
+-- Each turn writes a block more, of at most 65.
 use Prim.Native.Nat.{_-_, _≤_}
+use borrow.Author.Needs.{needs}
 use Rattle.wave.proofs.play.Statement.{statement}
 use Rattle.wave.proofs.play.Tie as tie
 
 abbrev Inv-loop : tie.InvT-loop
-Inv-loop plate k₀ k = k ≤ 65
+Inv-loop g words k₀ k = k ≤ 65
 
 abbrev μ-loop : tie.MeasureT-loop
-μ-loop plate k₀ k = 65 - k
+μ-loop g words k₀ k = 65 - k
 
 loop-holds : tie.Need-loop-holds Inv-loop μ-loop
 loop-holds c = search needs

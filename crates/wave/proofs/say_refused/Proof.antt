@@ -1,5 +1,6 @@
-use native.Mathlib.Omega.{arith}
+-- The line that refuses lies within the memory that it was put into.
 use mathlib.Core.Path.{sym, ap}
+use native.Mathlib.Omega.{arith}
 use lib.ListN.{length}
 use lib.Seq.{length-sets, length-take-le}
 use borrow.Author.Needs.{needs}
@@ -10,10 +11,14 @@ refusal-requires : tie.Need-refusal-requires
 refusal-requires c κs = search needs
 
 array-share-prefix-text : tie.Need-array-share-prefix-text
-array-share-prefix-text c = omega (arith, c .refusal .ensures .inside, simp length-sets at (ap length (c .refusal .ensures .stored)))
+array-share-prefix-text c =
+    let put = c .refusal .ensures in
+    omega (arith, put .inside, simp length-sets at (ap length (put .stored)))
 
 slice-aggregate-write-all : tie.Need-slice-aggregate-write-all
-slice-aggregate-write-all c = sym (length-take-le (c .before .refusal .result) _ (omega (arith, c .before .refusal .ensures .inside, simp length-sets at (ap length (c .before .refusal .ensures .stored)))))
+slice-aggregate-write-all c =
+    let put = c .before .refusal .ensures in
+    sym (length-take-le (c .before .refusal .result) _ (omega (arith, put .inside, simp length-sets at (ap length (put .stored)))))
 
 write-all-requires : tie.Need-write-all-requires
 write-all-requires c κs = search needs

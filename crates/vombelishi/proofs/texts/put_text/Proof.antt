@@ -1,94 +1,74 @@
+-- A plate that is refused has one line, which says why; any other's text is that of its record and lists, which stand among its words.
 use borrow.Author.Needs.{needs}
-use Prim.Native.Nat.{_-_, _≤_}
-use mathlib.Core.Path.{_≡_, refl, sym, ap, _∙_}
+use mathlib.Core.Path.{sym, _∙_}
 use native.Mathlib.Omega.{arith}
-use lib.ListN.{length}
-use lib.Seq.{sets, length-sets}
-use Rattle.runs.specs.Sheet.{sheetTold}
-use Rattle.runs.specs.Text.{linesFor, firstLines}
-use Rattle.runs.proofs.Lines.{few-lines, more-lines, no-lines, length-next, all-lines, lines-room}
-use Rattle.vombelishi.proofs.Text.{lines-stored, lines-done}
+use Rattle.sheets.proofs.Sheets.{input-length, input-lists}
+use Rattle.vombelishi.proofs.Text.{text-refused, text-held}
 use Rattle.vombelishi.proofs.texts.put_text.Statement.{statement}
 use Rattle.vombelishi.proofs.texts.put_text.Tie as tie
 
-abbrev Inv-loop : tie.InvT-loop
-Inv-loop file out₀ at₀ k₀ out at k =
-    (k ≤ 1025) × (k ≤ linesFor (sheetTold file)) × (at ≡ length (firstLines file k)) × (out ≡ sets out₀ 0 (firstLines file k))
+take-input-requires : tie.Need-take-input-requires
+take-input-requires c κs = search needs
 
-abbrev μ-loop : tie.MeasureT-loop
-μ-loop file out₀ at₀ k₀ out at k = 1025 - k
+enum-known-answer : tie.Need-enum-known-answer
+enum-known-answer c = search needs
 
-loop-holds : tie.Need-loop-holds Inv-loop μ-loop
-loop-holds c = (omega arith, omega arith, sym (ap length (no-lines _)), rw (no-lines _) refl)
+refused-requires : tie.Need-refused-requires
+refused-requires c κs = search needs
 
-put-line-requires : tie.Need-put-line-requires Inv-loop μ-loop
-put-line-requires c κs =
-    let s = c .before .before .before .before .before in
-    let l = c .before .before .loop in
-    omega (arith, lines-room (s .args .file .now) (l .k) (l .inv .1), s .pre, l .inv .2, simp length-sets at (ap length (l .inv .3)))
+enum-told : tie.Need-enum-told
+enum-told c = search needs
 
-same-length : tie.Need-same-length Inv-loop μ-loop
-same-length c =
-    let l = c .before .before .before .before .before .before .loop in
-    let put = c .before .before .before .put-line .ensures in
-    (simp length-sets at (ap length (put .1))) ∙ (simp length-sets at (ap length (l .inv .3)))
+slice-aggregate-put-parts : tie.Need-slice-aggregate-put-parts
+slice-aggregate-put-parts c =
+    let taken = c .before .before .before .before .take-input in
+    sym (input-length (c .before .before .before .before .before .before .before .before .args .file .now) _ _ (taken .result) (taken .ensures))
 
-returns : tie.Need-returns Inv-loop μ-loop
+put-parts-requires : tie.Need-put-parts-requires
+put-parts-requires c κs =
+    let s = c .before .before .before .before .before .before .before .before .before in
+    let take-input = c .before .before .before .before .before .take-input in
+    let enum-told = c .before .before .enum-told in
+    let taken = take-input in
+    input-lists (s .args .file .now) _ _ (taken .result) (taken .ensures) (search needs) (enum-told .given .1)
+
+same-length : tie.Need-same-length
+same-length c = search needs
+
+returns : tie.Need-returns
 returns c =
-    let s = c .before .before .before .before .before .before .before .before .before in
-    let l = c .before .before .before .before .before .before .loop in
-    let put = c .before .before .before .put-line .ensures in
-    let file = s .args .file .now in
-    lines-done file (s .args .out .now) (l .out) _ (l .k) (l .at) _ (l .inv .3) (l .inv .1) (put .1) (put .0) (c .if1 .taken)
+    let s = c .before .before .before .before .before .before .before .before .before .before .before .before in
+    let take-input = c .before .before .before .before .before .before .before .before .take-input in
+    let answer = c .before .before .before .before .before .answer in
+    let refused = c .before .before .refused in
+    let taken = take-input in
+    let same = text-refused (s .args .file .now) _ _ (taken .result) (taken .ensures) _ (answer .given .1) in
+    rw same (refused .ensures)
 
-add-at : tie.Need-add-at Inv-loop μ-loop
-add-at c =
-    let s = c .before .before .before .before .before .before .before .before .before in
-    let l = c .before .before .before .before .before .before .loop in
-    let put = c .before .before .before .put-line .ensures in
-    let file = s .args .file .now in
-    omega (arith, lines-room file (l .k) (l .inv .1), s .pre, l .inv .2, put .0)
+same-length-2 : tie.Need-same-length-2
+same-length-2 c = search needs
 
-add-k : tie.Need-add-k Inv-loop μ-loop
-add-k c = search needs
-
-loop-less : tie.Need-loop-less Inv-loop μ-loop
-loop-less c = search needs
-
-loop-again : tie.Need-loop-again Inv-loop μ-loop
-loop-again c =
-    let s = c .before .before .before .before .before .before .before .before .before in
-    let l = c .before .before .before .before .before .before .loop in
-    let put = c .before .before .before .put-line .ensures in
-    let file = s .args .file .now in (
-      omega arith,
-      more-lines file (l .k) (λ z. c .if1 .left (put .0 ∙ z)),
-      omega (arith, length-next file (l .k), put .0, l .inv .2),
-      lines-stored file (s .args .out .now) (l .out) _ (l .k) (l .at) (l .inv .3) (l .inv .2) (put .1),
-    )
-
-same-length-2 : tie.Need-same-length-2 Inv-loop μ-loop
-same-length-2 c = simp length-sets at (ap length (c .before .loop .inv .3))
-
-returns-2 : tie.Need-returns-2 Inv-loop μ-loop
+returns-2 : tie.Need-returns-2
 returns-2 c =
-    let l = c .before .loop in
-    let s = c .before .before .before .before in
-    l .inv .3 ∙ ap (sets (s .args .out .now) 0) (all-lines (s .args .file .now) (l .k) (omega (arith, few-lines (s .args .file .now))))
+    let s = c .before .before .before .before .before .before .before .before .before .before .before .before in
+    let take-input = c .before .before .before .before .before .before .before .before .take-input in
+    let enum-told = c .before .before .before .before .before .enum-told in
+    let put-parts = c .before .before .put-parts in
+    let taken = take-input in
+    let same = text-held (s .args .file .now) _ _ (taken .result) (taken .ensures) (search needs) (enum-told .given .1) in
+    rw (← same) (put-parts .ensures)
 
 pub put-text-spec : {M : Type 1} → statement M
 put-text-spec =
     tie.close
     (tie.spec
-    Inv-loop
-    μ-loop
-    loop-holds
-    put-line-requires
+    take-input-requires
+    enum-known-answer
+    refused-requires
+    enum-told
+    slice-aggregate-put-parts
+    put-parts-requires
     same-length
     returns
-    add-at
-    add-k
-    loop-less
-    loop-again
     same-length-2
     returns-2)

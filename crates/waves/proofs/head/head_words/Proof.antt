@@ -14,11 +14,18 @@ mul-bytes c = search needs
 add-t5 : tie.Need-add-t5
 add-t5 c = search needs
 
-mul-t6 : tie.Need-mul-t6
-mul-t6 c = rw (c .rate-of .ensures) (record { fits = omega (arith, rate-most (c .before .args .frequency) (search needs)) })
+cast-t7 : tie.Need-cast-t7
+cast-t7 c = search needs
+
+mul-t8 : tie.Need-mul-t8
+mul-t8 c = rw (c .rate-of .ensures) (record { fits = omega (arith, rate-most (c .before .args .frequency) (search needs)) })
+
+cast-t9 : tie.Need-cast-t9
+cast-t9 c = search needs
 
 returns : tie.Need-returns
 returns c = rw (c .rate-of .ensures)
 
 pub head-words-spec : {M : Type 1} → statement M
-head-words-spec = tie.close (tie.spec rate-of-requires mul-bytes add-t5 mul-t6 returns)
+head-words-spec =
+    tie.close (tie.spec rate-of-requires mul-bytes add-t5 cast-t7 mul-t8 cast-t9 returns)

@@ -1,0 +1,12 @@
+pub mod Tens
+pub mod Lengths
+pub mod Stored
+pub mod Puts
+pub mod Given
+pub mod Sheets
+pub mod Texts
+pub mod Lines
+pub mod Pictures
+pub mod Unique
+pub mod Waves
+pub mod Spread

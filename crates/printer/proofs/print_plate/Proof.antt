@@ -1,0 +1,49 @@
+-- The words that are lent on are as many as before, and a plate that is taken apart has its lists in order among them.
+use mathlib.Core.Path.{sym}
+use borrow.Author.Needs.{needs}
+use Rattle.sheets.proofs.Sheets.{input-length, input-lists}
+use Rattle.printer.proofs.print_plate.Statement.{statement}
+use Rattle.printer.proofs.print_plate.Tie as tie
+
+take-input-requires : tie.Need-take-input-requires
+take-input-requires c κs = search needs
+
+enum-known-answer : tie.Need-enum-known-answer
+enum-known-answer c = search needs
+
+print-refused-requires : tie.Need-print-refused-requires
+print-refused-requires c κs = search needs
+
+enum-told : tie.Need-enum-told
+enum-told c = search needs
+
+slice-aggregate-print-parts : tie.Need-slice-aggregate-print-parts
+slice-aggregate-print-parts c =
+    let taken = c .before .before .before .take-input in
+    sym (input-length (c .before .before .before .before .before .before .args .plate .now) _ _ (taken .result) (taken .ensures))
+
+print-parts-requires : tie.Need-print-parts-requires
+print-parts-requires c κs =
+    let s = c .before .before .before .before .before .before in
+    let take-input = c .before .before .before .take-input in
+    let taken = take-input in
+    input-lists (s .args .plate .now) _ _ (taken .result) (taken .ensures) (search needs) (c .before .enum-told .given .1)
+
+returns : tie.Need-returns
+returns c = search needs
+
+returns-2 : tie.Need-returns-2
+returns-2 c = search needs
+
+pub print-plate-spec : {M : Type 1} → statement M
+print-plate-spec =
+    tie.close
+    (tie.spec
+    take-input-requires
+    enum-known-answer
+    print-refused-requires
+    enum-told
+    slice-aggregate-print-parts
+    print-parts-requires
+    returns
+    returns-2)
