@@ -16,7 +16,6 @@ use Rattle.registers.specs.declared.setting.Setting.{Setting}
 use Rattle.cells.specs.Pixel.{pixel}
 use Rattle.cells.specs.Cell.{plainCode, covered, code, cell}
 use Rattle.cells.specs.Picture.{pictureTold}
-use Rattle.cells.proofs.Pictures.{picture-given}
 use Rattle.frame.specs.Frame.{frameCell, rasterCell}
 use Rattle.marks.specs.Count.{total}
 use Rattle.marks.specs.Marks.{marksOf}

@@ -8,7 +8,6 @@ use lib.Dec.{ltb}
 use lib.ListN.{length, take, length-take, length-drop}
 use lib.Seq.{sets, length-sets}
 use borrow.Author.Tests.{lt-ltb, le-ltb, ltb-false}
-use Rattle.buffers.specs.Pick.{pick}
 use Rattle.buffers.specs.Words.{wordsOf}
 use Rattle.refusals.specs.Table.{Why, why, Told, given, refused, row, judged, andThen, unlessRefused, Passes}
 use Rattle.refusals.specs.Refusals.{refusal, answerSays}
@@ -26,7 +25,7 @@ use Rattle.plates.specs.declared.Reading.{Reading}
 use Rattle.plates.specs.declared.Reading.the-variants as reading
 use Rattle.plates.proofs.Rule.{Ordered}
 use Rattle.plates.proofs.Calls.{Right, right-given, right-ordered, copy-done}
-use Rattle.sheets.specs.Sheet.{part, registerWords, videoList, cursorList, soundList, registersOf, partsOf, noParts, plateTable, takeTable, takeTold}
+use Rattle.sheets.specs.Sheet.{part, registerWords, videoList, cursorList, soundList, registersOf, partsOf, noParts, takeTold}
 use Rattle.sheets.specs.Input.{mostInput, inputTable, inputTold, inputParts, inputLeaves}
 use Rattle.sheets.specs.declared.Parts.{Parts}
 use Rattle.sheets.specs.declared.Taken.{Taken}

@@ -7,7 +7,7 @@ ghost use mathlib.Core.Path.{_≡_};
 ghost use Prim.Native.Nat.{_+_, _*_, _≤_};
 ghost use lib.ListN.{length, take};
 ghost use lib.Seq.{sets};
-ghost use Rattle.buffers.specs.Words.{word, wordAt, wordsOf};
+ghost use Rattle.buffers.specs.Words.{word, wordsOf};
 ghost use Rattle.refusals.specs.Table.{unlessRefused};
 ghost use Rattle.refusals.specs.Refusals.{answerSays};
 ghost use Rattle.registers.specs.Record.{fresh};

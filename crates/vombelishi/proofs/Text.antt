@@ -1,9 +1,8 @@
 -- The call for a text: it is stored whole where it fits, and since it has at least a byte, none stored tells that it does not.
 use Prim.Native.Nat.{ℕ, _≤_, _<_}
 use mathlib.Core.Path.{_≡_, sym, _∙_, ap}
-use mathlib.Core.Bool.{Bool, true, false}
-use mathlib.Core.List.{List, []}
-use mathlib.Core.Logic.{_⊎_, inl, inr}
+use mathlib.Core.List.{List}
+use mathlib.Core.Logic.{inl, inr}
 use native.Mathlib.Omega.{arith}
 use borrow.Author.Tests.{lt-ltb, le-ltb}
 use lib.ListN.{length}
@@ -17,9 +16,9 @@ use Rattle.refusals.specs.declared.Answer.the-variants as answer
 use Rattle.sheets.specs.Sheet.{part, registersOf, videoList, cursorList}
 use Rattle.sheets.specs.Input.{inputTold, inputParts, inputLeaves}
 use Rattle.sheets.specs.declared.Taken.{Taken}
-use Rattle.sheets.proofs.Sheets.{Held, input-given, input-refused, input-held}
+use Rattle.sheets.proofs.Sheets.{input-given, input-refused, input-held}
 use Rattle.outputs.specs.Sheet.{sheetTold}
-use Rattle.outputs.specs.Text.{refusedLine, pictureText, textBy, textOf, textIn}
+use Rattle.outputs.specs.Text.{refusedLine, pictureText, textOf, textIn}
 use Rattle.outputs.proofs.Lines.{some-text}
 use Rattle.outputs.proofs.Sheets.{text-untaken, text-taken}
 use Rattle.outputs.proofs.Texts.{text-short, text-fits}

@@ -1,5 +1,5 @@
 -- What is not too long has fewer words than there is room for, so that the room's own row never refuses.
-use mathlib.Core.Path.{refl, sym, _∙_}
+use mathlib.Core.Path.{refl}
 use lib.Seq.{sets}
 use Rattle.refusals.specs.Table.{why}
 use Rattle.plates.specs.Read.{copied}

@@ -1,7 +1,6 @@
 -- A plate that is refused has one line, which says why; any other's text is that of its record and lists, which stand among its words.
 use borrow.Author.Needs.{needs}
-use mathlib.Core.Path.{sym, _∙_}
-use native.Mathlib.Omega.{arith}
+use mathlib.Core.Path.{sym}
 use Rattle.sheets.proofs.Sheets.{input-length, input-lists}
 use Rattle.vombelishi.proofs.Text.{text-refused, text-held}
 use Rattle.vombelishi.proofs.texts.put_text.Statement.{statement}
