@@ -11,13 +11,14 @@ use Rattle.buffers.proofs.Tests.{or-neither}
 use Rattle.refusals.specs.Table.{why, given, refused, Row, row, judged, andThen, Passes}
 use Rattle.refusals.specs.Refusals.{refusal}
 use Rattle.refusals.specs.declared.Refusal.{Refusal}
-use Rattle.refusals.proofs.Tables.{passed, passes-first, passes-given, given-passes, judged-then, and-then-judged}
+use Rattle.refusals.proofs.Tables.{passed, given-passes, judged-then, and-then-judged}
 use Rattle.registers.specs.Setting.{settingOf, videoWords, cursorWords}
-use Rattle.registers.specs.Check.{settingTable, checkTold, checkSays}
+use Rattle.registers.specs.Check.{checkTold, checkSays}
 use Rattle.registers.specs.declared.record.Registers.{Registers}
 use Rattle.registers.specs.declared.setting.Setting.{Setting}
 use Rattle.registers.specs.declared.check.Checked.{Checked}
 use Rattle.registers.specs.declared.check.Checked.the-variants as checked
+use Rattle.registers.proofs.Told.{check-then, check-passes}
 use Rattle.registers.proofs.Accepted.{accepted}
 use Rattle.cells.specs.Picture.{wordsWrong, pictureTable, pictureTold}
 use Rattle.cells.specs.inner.Known.{Picture}
@@ -41,8 +42,8 @@ module _ (g : Registers) (video cursor : List ℕ) where
 
   -- First the setting, then 11.
   picture-then : pictureTold g video cursor ≡ andThen (checkTold g) (λ s. judged (row 11 (wordsWrong s video cursor) 0 ∷ []) s)
-  unfolding pictureTold checkTold
-  picture-then = sym (and-then-judged (settingOf g) (settingTable g) (λ s. row 11 (wordsWrong s video cursor) 0 ∷ []) (λ s. s))
+  unfolding pictureTold
+  picture-then = check-then g (λ s. row 11 (wordsWrong s video cursor) 0 ∷ []) (λ s. s)
 
   -- A table that goes on behind the picture's, and the picture's own table judged for something else.
   pub picture-more : {A : Type 0} (a : A) (more : List Row)
@@ -75,10 +76,8 @@ module _ (g : Registers) (video cursor : List ℕ) where
     picture-setting = sym (picture-passes .1)
 
     pub picture-checked : checkTold g ≡ given s
-    unfolding checkTold
     picture-checked =
-        let eleven = row 11 (wordsWrong (settingOf g) video cursor) 0 ∷ [] in
-        passes-given (settingOf g) (settingTable g) (passes-first (settingTable g) eleven (picture-passes .0)) ∙ ap given (picture-passes .1)
+        check-passes g (row 11 (wordsWrong (settingOf g) video cursor) 0 ∷ []) (picture-passes .0) ∙ ap given (picture-passes .1)
 
     picture-words : wordsWrong s video cursor ≡ false
     picture-words = rw picture-setting (passed 11 (pictureTable g video cursor) (picture-passes .0))

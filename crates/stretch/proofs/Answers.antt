@@ -10,13 +10,14 @@ use denote.Ref.{RefT, ptr, now}
 use Rattle.refusals.specs.Table.{Told, given, judged, andThen, Passes}
 use Rattle.refusals.specs.Refusals.{refusal}
 use Rattle.registers.specs.Setting.{settingOf, videoWords}
-use Rattle.registers.specs.Check.{settingTable, checkTold, checkSays}
+use Rattle.registers.specs.Check.{checkTold, checkSays}
 use Rattle.registers.specs.declared.record.Registers.{Registers}
 use Rattle.registers.specs.declared.setting.Setting.{Setting}
 use Rattle.refusals.specs.declared.Refusal.{Refusal}
 use Rattle.registers.specs.declared.check.Checked.{Checked}
 use Rattle.registers.specs.declared.check.Checked.the-variants as checked
-use Rattle.refusals.proofs.Tables.{passed, passes-first, passes-given, given-passes, and-then-judged}
+use Rattle.refusals.proofs.Tables.{passed, given-passes}
+use Rattle.registers.proofs.Told.{check-then, check-passes}
 use Rattle.registers.specs.inner.Accepted.{Accepted}
 use Rattle.registers.proofs.Accepted.{accepted}
 use Rattle.stretch.specs.Stretch.{stretchOf, rasterRows, stretchTable, stretchTold, foundSays, PartOf, answerTold}
@@ -29,8 +30,7 @@ use Rattle.stretch.proofs.Told.{stretch-told}
 module _ (g : Registers) (video : List ℕ) (y : ℕ) where
   -- First the setting, then the rows behind it.
   stretch-then : stretchTold g video y ≡ andThen (checkTold g) (λ s. judged (rasterRows s video y) (stretchOf s y))
-  unfolding checkTold
-  stretch-then = stretch-told g video y ∙ sym (and-then-judged (settingOf g) (settingTable g) (λ s. rasterRows s video y) (λ s. stretchOf s y))
+  stretch-then = stretch-told g video y ∙ check-then g (λ s. rasterRows s video y) (λ s. stretchOf s y)
 
   module _ (x : Checked) (c : checkSays x ≡ checkTold g) where
     pub find-refused : {why : Refusal} → x ≡ checked.Refused why → refusal why ≡ stretchTold g video y
@@ -45,10 +45,7 @@ module _ (g : Registers) (video : List ℕ) (y : ℕ) where
 
   -- Where the table is passed, the setting is accepted and the list as long as it needs.
   pub passes-accepted : Passes (stretchTable g video y) → Accepted (settingOf g)
-  unfolding checkTold
-  passes-accepted p =
-      let s = settingOf g in
-      accepted g s (passes-given s (settingTable g) (passes-first (settingTable g) (rasterRows s video y) p))
+  passes-accepted p = let s = settingOf g in accepted g s (check-passes g (rasterRows s video y) p)
 
   passes-words : Passes (stretchTable g video y) → length video ≡ videoWords (settingOf g)
   passes-words p = eqb-true (length video) (videoWords (settingOf g)) (not-false _ (passed 11 (stretchTable g video y) p))
