@@ -1,6 +1,8 @@
-// Standard input, read into memory that the caller lends. What a system call delivers is open; how much of the memory it fills is not.
+// Standard input, read into memory that the caller lends. What a system call delivers is open; that it lies within that memory is promised.
 use libc::STDIN_FILENO;
-ghost use Rattle.io.specs.Counts.{Counts};
+ghost use Prim.Native.Nat.{_≤_};
+ghost use mathlib.Core.Path.{_≡_};
+ghost use lib.ListN.{length, take};
 
 // How many bytes were read, which lie at the front, and whether reading failed before the input's end.
 pub struct Input {
@@ -16,7 +18,7 @@ fn at_end() -> bool {
 
 // Reads until the memory is full or the input ends; a failure is told on standard error.
 pub fn read(bytes: &mut [u8]) -> Input
-    ensures { λ r. ⌜ Counts (r .count) (now (bytes .exit)) ⌝ }
+    ensures { λ r. ⌜ (r .count ≤ length (now (bytes .exit))) × (r .count ≡ length (take (r .count) (now (bytes .exit)))) ⌝ }
 {
     let count = io::read_full(STDIN_FILENO, bytes);
     let failed = count < bytes.len() && !at_end();

@@ -54,8 +54,8 @@ print-unloaded-requires : tie.Need-print-unloaded-requires
 print-unloaded-requires c κs =
     let test = c .before .before .before .before in
     let s = test .before .before .before in
-    let other = λ e. test .if1 .left (test .before .number .ensures ∙ e) in
-    trailer-ordered _ (s .args .why) (s .pre) other _ _ (c .before .before .before .read .ensures) (c .before .p .given .1)
+    trailer-ordered _ (s .args .why) (s .pre) (λ e. test .if1 .left (test .before .number .ensures ∙ e)) _ _
+    (c .before .before .before .read .ensures) (c .before .p .given .1)
 
 returns-2 : tie.Need-returns-2
 returns-2 c = search needs
