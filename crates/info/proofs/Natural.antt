@@ -13,5 +13,6 @@ natural : (z : ℤ) → SFits w16 z → ltZ z (pos 0) ≡ false → T (nonNeg z)
 natural (pos n) f h = (tt, fits-of-lt (omega (arith, f .sfits)))
 natural (negsuc n) f h = absurd (true≢false h)
 
-pub stored-natural : (z : ℤ) → SFits w16 z → ltZ (toZ w16 (ofZ w16 z)) (pos 0) ≡ false → T (nonNeg (toZ w16 (ofZ w16 z))) × Fits w64 (natAbs (toZ w16 (ofZ w16 z)))
+pub stored-natural : (z : ℤ) → SFits w16 z → ltZ (toZ w16 (ofZ w16 z)) (pos 0) ≡ false
+    → T (nonNeg (toZ w16 (ofZ w16 z))) × Fits w64 (natAbs (toZ w16 (ofZ w16 z)))
 stored-natural z f h = rw (toZ-ofZ f) (natural z f (rw (toZ-ofZ f) at h))

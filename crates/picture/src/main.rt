@@ -1,6 +1,5 @@
 // A plate on standard input, its picture on standard output as a binary PPM file. All that matters is proved in `sheets` and `outputs`.
 use libc::STDERR_FILENO;
-use libc::STDIN_FILENO;
 use libc::STDOUT_FILENO;
 use refusals::Answer;
 use refusals::Refusal;
@@ -86,14 +85,9 @@ fn show_plate(plate: &[u8]) {
 fn main() {
     // One byte more than is taken: a longer plate is refused for its length alone.
     let mut plate = [0u8; 65537];
-    let n = io::read_full(STDIN_FILENO, &mut plate);
-    if n < 65537 {
-        // What ended the reading was the input's end, or a failure that a read shows again.
-        let mut probe = [0u8; 1];
-        if libc::read(STDIN_FILENO, &mut probe) != 0 {
-            os::fail(b"standard input");
-            return;
-        }
+    let input = standard_input::read(&mut plate);
+    if !input.failed {
+        let n = input.count;
+        show_plate(&plate[..n]);
     }
-    show_plate(&plate[..n]);
 }

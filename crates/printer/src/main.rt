@@ -1,5 +1,4 @@
 // The run printer: a plate on standard input, its text on standard output. All that matters is proved in `sheets` and `outputs`.
-use libc::STDIN_FILENO;
 use libc::STDOUT_FILENO;
 use refusals::Answer;
 use refusals::Refusal;
@@ -67,16 +66,11 @@ fn print_plate(plate: &[u8]) {
 }
 
 fn main() {
-    // One byte more than the printer takes: a longer plate is refused for its length alone.
+    // One byte more than is taken: a longer plate is refused for its length alone.
     let mut plate = [0u8; 65537];
-    let n = io::read_full(STDIN_FILENO, &mut plate);
-    if n < 65537 {
-        // What ended the reading was the input's end, or a failure that a read shows again.
-        let mut probe = [0u8; 1];
-        if libc::read(STDIN_FILENO, &mut probe) != 0 {
-            os::fail(b"standard input");
-            return;
-        }
+    let input = standard_input::read(&mut plate);
+    if !input.failed {
+        let n = input.count;
+        print_plate(&plate[..n]);
     }
-    print_plate(&plate[..n]);
 }

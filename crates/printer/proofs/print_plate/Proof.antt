@@ -25,8 +25,7 @@ slice-aggregate-print-parts c =
 print-parts-requires : tie.Need-print-parts-requires
 print-parts-requires c κs =
     let s = c .before .before .before .before .before .before in
-    let take-input = c .before .before .before .take-input in
-    let taken = take-input in
+    let taken = c .before .before .before .take-input in
     input-lists (s .args .plate .now) _ _ (taken .result) (taken .ensures) (search needs) (c .before .enum-told .given .1)
 
 returns : tie.Need-returns

@@ -1,3 +1,4 @@
+-- What is written is the front of the letters: there are at least as many of them as are asked for.
 use lib.Seq.{length-take-le}
 use mathlib.Core.Path.{sym}
 use native.Mathlib.Omega.{arith}

@@ -1,77 +1,51 @@
-use Rattle.info.proofs.Trailer.{trailer-ordered}
+-- A plate that is refused is told so, and one that is taken apart has its lists in order among its words, which are as many as before.
+use mathlib.Core.Path.{sym}
+use Rattle.sheets.proofs.Sheets.{input-length, input-refused, input-held}
 use borrow.Author.Needs.{needs}
 use Rattle.info.proofs.plate.print_plate.Statement.{statement}
 use Rattle.info.proofs.plate.print_plate.Tie as tie
 
-new-requires : tie.Need-new-requires
-new-requires c κs = search needs
+take-input-requires : tie.Need-take-input-requires
+take-input-requires c κs = search needs
 
-slice-aggregate-text : tie.Need-slice-aggregate-text
-slice-aggregate-text c = search needs
+enum-known-answer : tie.Need-enum-known-answer
+enum-known-answer c = search needs
 
-text-requires : tie.Need-text-requires
-text-requires c κs = search needs
+print-not-taken-requires : tie.Need-print-not-taken-requires
+print-not-taken-requires c κs =
+    let taken = c .before .before .before .take-input in
+    input-refused (c .before .before .before .before .before .before .args .plate .now) _ _ (taken .result) (taken .ensures) _ (c .before .answer .given .1)
 
-print-untaken-requires : tie.Need-print-untaken-requires
-print-untaken-requires c κs = search needs
+enum-told : tie.Need-enum-told
+enum-told c = search needs
+
+slice-aggregate-print-parts : tie.Need-slice-aggregate-print-parts
+slice-aggregate-print-parts c =
+    let taken = c .before .before .before .take-input in
+    sym (input-length (c .before .before .before .before .before .before .args .plate .now) _ _ (taken .result) (taken .ensures))
+
+print-parts-requires : tie.Need-print-parts-requires
+print-parts-requires c κs =
+    let s = c .before .before .before .before .before .before in
+    let taken = c .before .before .before .take-input in
+    let held = input-held (s .args .plate .now) _ _ (taken .result) (taken .ensures) (search needs) (c .before .enum-told .given .1) in
+    (held .video-first, held .cursor-first, held .sound-first, held .inside)
 
 returns : tie.Need-returns
 returns c = search needs
 
-read-requires : tie.Need-read-requires
-read-requires c κs = search needs
-
-enum-known-why : tie.Need-enum-known-why
-enum-known-why c = search needs
-
-new-requires-2 : tie.Need-new-requires-2
-new-requires-2 c κs = search needs
-
-slice-aggregate-count : tie.Need-slice-aggregate-count
-slice-aggregate-count c = search needs
-
-count-requires : tie.Need-count-requires
-count-requires c κs = search needs
-
-slice-aggregate-text-2 : tie.Need-slice-aggregate-text-2
-slice-aggregate-text-2 c = search needs
-
-text-requires-2 : tie.Need-text-requires-2
-text-requires-2 c κs = search needs
-
-print-untaken-requires-2 : tie.Need-print-untaken-requires-2
-print-untaken-requires-2 c κs = search needs
-
-enum-known-p : tie.Need-enum-known-p
-enum-known-p c = search needs
-
-print-file-requires : tie.Need-print-file-requires
-print-file-requires c κs = trailer-ordered _ _ _ (c .before .before .before .before .if1 .left) (c .before .before .before .read .ensures) (c .before .p .given .1)
-
 returns-2 : tie.Need-returns-2
 returns-2 c = search needs
-
-returns-3 : tie.Need-returns-3
-returns-3 c = search needs
 
 pub print-plate-spec : {M : Type 1} → statement M
 print-plate-spec =
     tie.close
     (tie.spec
-    new-requires
-    slice-aggregate-text
-    text-requires
-    print-untaken-requires
+    take-input-requires
+    enum-known-answer
+    print-not-taken-requires
+    enum-told
+    slice-aggregate-print-parts
+    print-parts-requires
     returns
-    read-requires
-    enum-known-why
-    new-requires-2
-    slice-aggregate-count
-    count-requires
-    slice-aggregate-text-2
-    text-requires-2
-    print-untaken-requires-2
-    enum-known-p
-    print-file-requires
-    returns-2
-    returns-3)
+    returns-2)

@@ -1,3 +1,4 @@
+-- The number of sixths is no negative one behind the test, so it is a number of 64 bits as well.
 use Rattle.info.proofs.Natural.{stored-natural}
 use borrow.Author.Needs.{needs}
 use Rattle.info.proofs.terms.put_sixths.Statement.{statement}

@@ -1,3 +1,4 @@
+-- Entry k is read within its table of sixteen entries, since k is taken modulo 16 and an entry has four letters.
 use Prim.Native.Nat.{_-_, _≤_}
 use borrow.Author.Needs.{needs}
 use Rattle.info.proofs.line.Line.entry.Statement.{statement}

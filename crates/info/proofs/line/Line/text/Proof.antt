@@ -1,3 +1,4 @@
+-- Each letter of a text is read within it: the loop goes on only below its length.
 use lib.ListN.{length}
 use Prim.Native.Nat.{_-_, _≤_}
 use borrow.Author.Needs.{needs}
