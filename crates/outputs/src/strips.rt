@@ -1,6 +1,6 @@
 // One strip of a picture, as a binary PPM file has it: its head, then a strip for each raster.
-use cells::judge;
 use crate::words::put_pair;
+use cells::judge;
 use registers::check::Checked;
 use registers::record::Registers;
 use registers::setting::Setting;

@@ -1,9 +1,9 @@
 // One line of a picture's text.
-use cells::judge;
 use crate::line::put_line;
 use crate::words::put_bytes;
 use crate::words::put_head;
 use crate::words::put_refused;
+use cells::judge;
 use marks::answer::Marks;
 use refusals::Refusal;
 use registers::check::Checked;

@@ -28,7 +28,7 @@ returns c =
     let few = few-digits (s .args .n) in
     let put = put-bytes .ensures in (
       put-then _ _ put
-      (put-decimal (s .args .n) (omega (arith, few, s .pre, put .after, put-bytes .kept .0)) (put-number .ensures .0) (put-number .ensures .1)),
+          (put-decimal (s .args .n) (omega (arith, few, s .pre, put .after, put-bytes .kept .0)) (put-number .ensures .0) (put-number .ensures .1)),
       omega (arith, few, put-number .ensures .0, put .after),
     )
 
