@@ -4,15 +4,55 @@ ghost use mathlib.Core.Path.{_≡_};
 ghost use Prim.Native.Nat.{_+_, _*_, _<_, _≤_};
 ghost use lib.ListN.{length};
 ghost use lib.Seq.{sets};
+ghost use Rattle.buffers.specs.Pick.{pick};
 ghost use Rattle.outputs.specs.Runs.{run, lineOf};
-ghost use Rattle.outputs.specs.inner.Room.{Open, Stepped};
+ghost use Rattle.outputs.specs.inner.Room.{sameFrom, Along, Ends};
 ghost use Rattle.buffers.specs.Put.{Put};
 
-// A run under way: n cells of a code, to be stored from a place on.
-pub struct Run {
-    pub code: u32,
-    pub n: u32,
-    pub at: usize,
+// Whether the eight cells from a place on have a code: tests side by side, which the compiler makes one of.
+fn same_eight(cells: &[u16], i: usize, code: u16) -> bool
+    requires { ⌜ (i + 8 ≤ length (now cells)) × (length (now cells) ≤ 2048) ⌝ }
+    ensures { λ r. ⌜ r ≡ sameFrom code (now (cells .entry)) i 7 ⌝ }
+{
+    (cells[i] / 8192 == code)
+        & (cells[i + 1] / 8192 == code)
+        & (cells[i + 2] / 8192 == code)
+        & (cells[i + 3] / 8192 == code)
+        & (cells[i + 4] / 8192 == code)
+        & (cells[i + 5] / 8192 == code)
+        & (cells[i + 6] / 8192 == code)
+        & (cells[i + 7] / 8192 == code)
+}
+
+// As far along a run as eights of cells go.
+fn skip_eights(cells: &[u16], from: usize, code: u16) -> usize
+    requires { ⌜ (from ≤ length (now cells)) × (length (now cells) ≤ 2048) ⌝ }
+    ensures { λ r. ⌜ Along (now (cells .entry)) code from r ⌝ }
+{
+    let mut i = from;
+    while i + 8 <= cells.len() {
+        if !same_eight(cells, i, code) {
+            return i;
+        }
+        i += 8;
+    }
+    i
+}
+
+// The place after the run that begins at a place.
+fn run_end(cells: &[u16], from: usize) -> usize
+    requires { ⌜ (from < length (now cells)) × (length (now cells) ≤ 2048) ⌝ }
+    ensures { λ r. ⌜ Ends (now (cells .entry)) from r ⌝ }
+{
+    let code = cells[from] / 8192;
+    let mut i = skip_eights(cells, from + 1, code);
+    while i < cells.len() {
+        if cells[i] / 8192 != code {
+            return i;
+        }
+        i += 1;
+    }
+    i
 }
 
 // One run stored from a place on; the place after it.
@@ -25,26 +65,14 @@ fn put_run(out: &mut [u8], at: usize, code: u32, n: u32) -> usize
     put_number(out, x + 1, n)
 }
 
-// One cell more: it lengthens the run, or the run is stored with a space after it and a new one begins.
-fn step(out: &mut [u8], held: Run, cell: u16) -> Run
-    requires { ⌜ Open (length (now out)) held × (held .n < 65536) ⌝ }
-    ensures { λ r. ⌜ Stepped (now (out .entry)) (now (out .exit)) held cell r ⌝ }
+// What follows a run: a space where another comes, else the newline.
+fn mark(more: bool) -> u8
+    ensures { λ r. ⌜ r ≡ pick more 32 10 ⌝ }
 {
-    let code = (cell / 8192) as u32;
-    if code == held.code {
-        return Run {
-            code: held.code,
-            n: held.n + 1,
-            at: held.at,
-        };
+    if more {
+        return b' ';
     }
-    let end = put_run(out, held.at, held.code, held.n);
-    out[end] = b' ';
-    Run {
-        code: code,
-        n: 1,
-        at: end + 1,
-    }
+    b'\n'
 }
 
 // The line of some cells, stored from a place on; the place after it.
@@ -52,17 +80,14 @@ pub fn put_line(out: &mut [u8], at: usize, cells: &[u16]) -> usize
     requires { ⌜ (1 ≤ length (now cells)) × (length (now cells) ≤ 2048) × (at + 4 * length (now cells) ≤ length (now out)) ⌝ }
     ensures { λ r. ⌜ Put (now (out .entry)) (now (out .exit)) at (lineOf (now (cells .entry))) r ⌝ }
 {
-    let mut held = Run {
-        code: (cells[0] / 8192) as u32,
-        n: 1,
-        at: at,
-    };
-    let mut i = 1;
+    let mut to = at;
+    let mut i = 0;
     while i < cells.len() {
-        held = step(out, held, cells[i]);
-        i += 1;
+        let end = run_end(cells, i);
+        let x = put_run(out, to, (cells[i] / 8192) as u32, (end - i) as u32);
+        out[x] = mark(end < cells.len());
+        to = x + 1;
+        i = end;
     }
-    let end = put_run(out, held.at, held.code, held.n);
-    out[end] = b'\n';
-    end + 1
+    to
 }

@@ -12,14 +12,6 @@ ghost use Rattle.outputs.specs.Text.{lineAt, pictureText, textIn};
 // The head, and a line for each of 1,024 rasters at most.
 const MOST_LINES: usize = 1025;
 
-// How many bytes line k has: none after the last.
-fn measure_line(g: Registers, video: &[u32], cursor: &[u32], k: usize) -> usize
-    ensures { λ r. ⌜ (r ≡ length (lineAt g (now (video .entry)) (now (cursor .entry)) k)) × (r ≤ 8256) ⌝ }
-{
-    let mut bytes = [0u8; 8256];
-    line(g, video, cursor, k, &mut bytes)
-}
-
 // Line k stored from a place on, and how many bytes it has.
 fn put_line_at(
     g: Registers,
@@ -45,10 +37,11 @@ fn put_line_at(
 fn measure(g: Registers, video: &[u32], cursor: &[u32]) -> usize
     ensures { λ r. ⌜ r ≡ length (pictureText g (now (video .entry)) (now (cursor .entry))) ⌝ }
 {
+    let mut bytes = [0u8; 8256];
     let mut total = 0;
     let mut k = 0;
     while k < MOST_LINES {
-        let n = measure_line(g, video, cursor, k);
+        let n = line(g, video, cursor, k, &mut bytes);
         if n == 0 {
             return total;
         }

@@ -1,36 +1,42 @@
--- What one step of the run printer keeps: its functions use this among themselves, and no public promise reaches it.
-use Prim.Native.Nat.{ℕ, _+_, _*_, _<_, _≤_}
+-- How the line printer goes from run to run: its functions use this among themselves, and no public promise reaches it.
+use Prim.Native.Nat.{ℕ, zero, suc, _+_, _-_, _*_, _<_, _≤_}
 use mathlib.Core.Path.{_≡_}
-use mathlib.Core.List.{List, _∷_}
+use mathlib.Core.Bool.{Bool, false, _&&_}
+use mathlib.Core.List.{List, []}
 use lib.ListN.{length, getD, drop}
+use lib.Dec.{eqb, ltb}
 use lib.Seq.{sets}
-use Rattle.outputs.specs.Runs.{codeOf, runsFrom}
-use Rattle.outputs.specs.declared.line.Run.{Run}
+use Rattle.buffers.specs.Pick.{pick}
+use Rattle.outputs.specs.Runs.{codeOf, runsFrom, lineOf}
 
--- A run under way: some cells of one code, to be stored from a place on. Four bytes a cell are room enough.
-pub record Open (room : ℕ) (r : Run) : Type 0 where
-  pub some : 1 ≤ r .n
-  pub small : r .code < 8
-  pub fits : r .at + 4 * r .n ≤ room
+abbrev pub codeAt : List ℕ → ℕ → ℕ
+codeAt cells i = codeOf (getD cells i 0)
 
--- After one cell more: what is still to come is the same text.
-pub record Stepped (old new : List ℕ) (r : Run) (cell : ℕ) (q : Run) : Type 0 where
+-- Whether place i and n places after it have a code.
+abbrev pub sameFrom : ℕ → List ℕ → ℕ → ℕ → Bool
+sameFrom code cells i zero = eqb (codeAt cells i) code
+sameFrom code cells i (suc n) = sameFrom code cells i n && eqb (codeAt cells (i + suc n)) code
+
+-- A run of a code, whose second place is `from`, goes on at least to place r.
+pub record Along (cells : List ℕ) (code from r : ℕ) : Type 0 where
+  pub low : from ≤ r
+  pub high : r ≤ length cells
+  pub same : runsFrom code 1 (drop from cells) ≡ runsFrom code (1 + (r - from)) (drop r cells)
+
+-- The run that begins at place `from` ends before place r: there is no cell, or one of another code.
+pub record Ends (cells : List ℕ) (from r : ℕ) : Type 0 where
+  pub along : Along cells (codeAt cells from) (from + 1) r
+  pub other : r < length cells → eqb (codeAt cells r) (codeAt cells from) ≡ false
+
+-- What of a line is still to be stored, of the cells from place i on: none after the last.
+unfoldable pub restOf : List ℕ → ℕ → List ℕ
+restOf cells i = pick (ltb i (length cells)) (lineOf (drop i cells)) []
+
+-- Where a line stands before the run of place i: stored from `to` on, the rest of it is the whole line from `at` of the old memory on.
+-- Four bytes a cell are room enough.
+pub record Under (old new cells : List ℕ) (at to i : ℕ) : Type 0 where
+  pub most : i ≤ length cells
+  pub fits : to ≤ at + 4 * i
   pub len : length new ≡ length old
-  pub some : 1 ≤ q .n
-  pub small : q .code < 8
-  pub most : q .n ≤ r .n + 1
-  pub fits : q .at + 4 * q .n ≤ r .at + 4 * r .n + 4
-  pub same : (rest : List ℕ) → sets new (q .at) (runsFrom (q .code) (q .n) rest) ≡ sets old (r .at) (runsFrom (r .code) (r .n) (cell ∷ rest))
-  pub long : (rest : List ℕ) → q .at + length (runsFrom (q .code) (q .n) rest) ≡ r .at + length (runsFrom (r .code) (r .n) (cell ∷ rest))
-
--- Where a line stands after i of its cells: stored from `at` of the old memory on, what is still to come is the same text.
-pub record Under (old new cells : List ℕ) (at i : ℕ) (r : Run) : Type 0 where
-  pub from : 1 ≤ i
-  pub to : i ≤ length cells
-  pub some : 1 ≤ r .n
-  pub most : r .n ≤ i
-  pub small : r .code < 8
-  pub fits : r .at + 4 * r .n ≤ at + 4 * i
-  pub len : length new ≡ length old
-  pub same : sets new (r .at) (runsFrom (r .code) (r .n) (drop i cells)) ≡ sets old at (runsFrom (codeOf (getD cells 0 0)) 1 (drop 1 cells))
-  pub long : r .at + length (runsFrom (r .code) (r .n) (drop i cells)) ≡ at + length (runsFrom (codeOf (getD cells 0 0)) 1 (drop 1 cells))
+  pub same : sets new to (restOf cells i) ≡ sets old at (lineOf cells)
+  pub long : to + length (restOf cells i) ≡ at + length (lineOf cells)

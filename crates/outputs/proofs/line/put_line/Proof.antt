@@ -1,114 +1,96 @@
--- The run under way and the cells still to come make the same text at each turn; four bytes a cell are room enough.
-use lib.ListN.{length-set}
-use mathlib.Core.Path.{_∙_}
-use borrow.Author.Needs.{needs}
-use Rattle.outputs.proofs.Stored.{first-run, one-more, line-stored, line-length}
-use Rattle.outputs.proofs.Lengths.{run-fits}
-use Rattle.outputs.specs.inner.Room.{Under}
-use lib.ListN.{length}
+-- Each turn stores a run and its mark, and the rest of the line is that of the cells after it; four bytes a cell are room enough.
 use native.Mathlib.Omega.{arith}
-use mathlib.Core.Path.{refl}
 use Prim.Native.Nat.{_-_}
+use lib.ListN.{length}
+use borrow.Author.Needs.{needs}
+use Rattle.outputs.specs.inner.Room.{Under}
+use Rattle.outputs.proofs.Stored.{line-begins, run-within, next-run, line-ends}
 use Rattle.outputs.proofs.line.put_line.Statement.{statement}
 use Rattle.outputs.proofs.line.put_line.Tie as tie
 
 abbrev Inv-loop : tie.InvT-loop
-Inv-loop out₀ at cells held₀ i₀ out held i = Under out₀ out cells at i held
+Inv-loop out₀ at cells to₀ i₀ out to i = Under out₀ out cells at to i
 
 abbrev μ-loop : tie.MeasureT-loop
-μ-loop out₀ at cells held₀ i₀ out held i = length cells - i
-
-shared-slice-read-t8 : tie.Need-shared-slice-read-t8 Inv-loop μ-loop
-shared-slice-read-t8 c = search needs
-
-cast-t10 : tie.Need-cast-t10 Inv-loop μ-loop
-cast-t10 c = omega (arith, c .shared-slice-known2 .given 0)
+μ-loop out₀ at cells to₀ i₀ out to i = length cells - i
 
 loop-holds : tie.Need-loop-holds Inv-loop μ-loop
-loop-holds c = first-run _ _ _ _ (c .before .before .before .pre .0) refl (omega (arith, c .shared-slice-known2 .given 0))
+loop-holds c = line-begins _ _ _ (c .before .before .pre .0)
 
-mul-step : tie.Need-mul-step Inv-loop μ-loop
-mul-step c = search needs
+run-end-requires : tie.Need-run-end-requires Inv-loop μ-loop
+run-end-requires c κs = search needs
 
-shared-slice-read-step : tie.Need-shared-slice-read-step Inv-loop μ-loop
-shared-slice-read-step c = search needs
+mul-put-run : tie.Need-mul-put-run Inv-loop μ-loop
+mul-put-run c = search needs
 
-step-requires : tie.Need-step-requires Inv-loop μ-loop
-step-requires c κs =
-    let loop = c .before .before .before .loop in
-    (record { some = loop .inv .some; small = loop .inv .small; fits = omega arith }, omega arith)
+shared-slice-read-put-run : tie.Need-shared-slice-read-put-run Inv-loop μ-loop
+shared-slice-read-put-run c = search needs
 
-add-i : tie.Need-add-i Inv-loop μ-loop
-add-i c = search needs
+cast-put-run : tie.Need-cast-put-run Inv-loop μ-loop
+cast-put-run c = omega (arith, c .shared-slice-known2 .given (c .before .before .before .before .loop .i))
 
-loop-less : tie.Need-loop-less Inv-loop μ-loop
-loop-less c = search needs
+sub-put-run : tie.Need-sub-put-run Inv-loop μ-loop
+sub-put-run c = omega (arith, c .before .before .run-end .ensures .along .low)
 
-loop-again : tie.Need-loop-again Inv-loop μ-loop
-loop-again c = one-more _ _ _ _ _ _ _ _ (omega arith) (c .before .before .before .before .before .before .loop .inv) (c .before .before .step .ensures)
+cast-put-run-2 : tie.Need-cast-put-run-2 Inv-loop μ-loop
+cast-put-run-2 c =
+    let end = c .before .before .run-end .ensures in
+    omega (arith, end .along .low, end .along .high, c .before .before .before .before .before .before .before .pre .1)
 
 put-run-requires : tie.Need-put-run-requires Inv-loop μ-loop
 put-run-requires c κs =
-    let loop = c .before .before .loop in
-    omega (arith, run-fits (loop .held .code) (loop .held .n) (loop .inv .small) (loop .inv .some), loop .inv .fits, loop .inv .to, loop .inv .len)
+    let s = c .before .before .before .before .before .before .before in
+    let loop = c .before .before .before .before .loop in
+    let end = c .before .before .run-end .ensures in
+    let cell = c .shared-slice-known2 .given (loop .i) in
+    let room = run-within _ _ (s .args .cells .now) (s .args .at) (loop .to) (loop .i) _ end (loop .inv) (omega (arith, cell)) in
+    omega (arith, room, end .along .high, loop .inv .len, s .pre .2)
+
+mark-requires : tie.Need-mark-requires Inv-loop μ-loop
+mark-requires c κs = search needs
 
 slice-write-out : tie.Need-slice-write-out Inv-loop μ-loop
 slice-write-out c =
-    let s = c .before .before .before .before .before .before .before .before .before in
-    let loop = c .before .before .before .before .before .loop in
-    let put-run = c .before .before .put-run in
-    omega (
-      arith,
-      run-fits (loop .held .code) (loop .held .n) (loop .inv .small)
-          (loop .inv .some),
-      loop .inv .fits,
-      loop .inv .to,
-      loop .inv .len,
-      put-run .ensures .0,
-      put-run .kept .0,
-      s .pre .2,
-    )
+    let s = c .before .before .before .before .before .before .before .before .before .before .before in
+    let loop = c .before .before .before .before .before .before .before .before .loop in
+    let end = c .before .before .before .before .before .before .run-end .ensures in
+    let cell = c .before .before .before .before .shared-slice-known2 .given (loop .i) in
+    let room = run-within _ _ (s .args .cells .now) (s .args .at) (loop .to) (loop .i) _ end (loop .inv) (omega (arith, cell)) in
+    let put = c .before .before .before .put-run in
+    omega (arith, room, end .along .high, loop .inv .len, s .pre .2, put .ensures .0, put .kept .0)
 
-add-result : tie.Need-add-result Inv-loop μ-loop
-add-result c =
-    let s = c .before .before .before .before .before .before .before .before .before in
-    let loop = c .before .before .before .before .before .loop in
-    let put-run = c .before .before .put-run in
-    omega (
-      arith,
-      run-fits (loop .held .code) (loop .held .n) (loop .inv .small)
-          (loop .inv .some),
-      loop .inv .fits,
-      loop .inv .to,
-      loop .inv .len,
-      put-run .ensures .0,
-      put-run .kept .0,
-      s .pre .2,
-    )
+add-to : tie.Need-add-to Inv-loop μ-loop
+add-to c =
+    let s = c .before .before .before .before .before .before .before .before .before .before .before in
+    let loop = c .before .before .before .before .before .before .before .before .loop in
+    let end = c .before .before .before .before .before .before .run-end .ensures in
+    let cell = c .before .before .before .before .shared-slice-known2 .given (loop .i) in
+    let room = run-within _ _ (s .args .cells .now) (s .args .at) (loop .to) (loop .i) _ end (loop .inv) (omega (arith, cell)) in
+    let put = c .before .before .before .put-run in
+    omega (arith, room, end .along .high, loop .inv .len, s .pre .2, put .ensures .0, put .kept .0)
+
+loop-less : tie.Need-loop-less Inv-loop μ-loop
+loop-less c =
+    let end = c .before .before .before .before .before .before .run-end .ensures in
+    omega (arith, end .along .low, end .along .high)
+
+loop-again : tie.Need-loop-again Inv-loop μ-loop
+loop-again c =
+    let s = c .before .before .before .before .before .before .before .before .before .before .before in
+    let loop = c .before .before .before .before .before .before .before .before .loop in
+    let end = c .before .before .before .before .before .before .run-end .ensures in
+    let cell = c .before .before .before .before .shared-slice-known2 .given (loop .i) in
+    let put = c .before .before .before .put-run .ensures in
+    rw (c .mark .ensures) (next-run _ _ (s .args .cells .now) (s .args .at) (loop .to) (loop .i) _ end (loop .inv) (omega (arith, cell)) _ _ (put .1) (put .0))
 
 same-length : tie.Need-same-length Inv-loop μ-loop
-same-length c = simp length-set (c .before .before .put-run .kept .0 ∙ c .before .before .before .before .before .loop .inv .len)
+same-length c = c .before .loop .inv .len
 
 returns : tie.Need-returns Inv-loop μ-loop
 returns c =
-    let s = c .before .before .before .before .before .before .before .before .before in
-    let loop = c .before .before .before .before .before .loop in
-    let put-run = c .before .before .put-run in
-    record {
-      stored = line-stored _ _ _ _ _ _ _ _ (loop .inv) (omega (arith, loop .inv .to)) (put-run .ensures .1)
-          (put-run .ensures .0);
-      after = line-length _ _ _ _ _ _ _ _ (loop .inv) (omega (arith, loop .inv .to)) (put-run .ensures .1)
-          (put-run .ensures .0);
-      inside = omega (
-        arith,
-        run-fits (loop .held .code) (loop .held .n) (loop .inv .small)
-            (loop .inv .some),
-        loop .inv .fits,
-        loop .inv .to,
-        put-run .ensures .0,
-        s .pre .2,
-      );
-    }
+    let s = c .before .before .before .before in
+    let loop = c .before .loop in
+    line-ends (s .args .cells .now) (loop .i) (omega arith) (s .pre .2) (loop .inv)
 
 pub put-line-spec : {M : Type 1} → statement M
 put-line-spec =
@@ -116,17 +98,18 @@ put-line-spec =
     (tie.spec
     Inv-loop
     μ-loop
-    shared-slice-read-t8
-    cast-t10
     loop-holds
-    mul-step
-    shared-slice-read-step
-    step-requires
-    add-i
+    run-end-requires
+    mul-put-run
+    shared-slice-read-put-run
+    cast-put-run
+    sub-put-run
+    cast-put-run-2
+    put-run-requires
+    mark-requires
+    slice-write-out
+    add-to
     loop-less
     loop-again
-    put-run-requires
-    slice-write-out
-    add-result
     same-length
     returns)
