@@ -21,7 +21,8 @@ use Rattle.marks.specs.Count.{total}
 use Rattle.marks.specs.Marks.{marksOf}
 use Rattle.plates.specs.Plate.{plateOf}
 use Rattle.outputs.specs.Decimal.{digits, decimal}
-use Rattle.outputs.specs.Runs.{codeOf, run}
+use Rattle.colours.specs.Cells.{cellCode}
+use Rattle.outputs.specs.Runs.{run}
 use Rattle.sheets.specs.Sheet.{registerWords, videoList, cursorList, registersOf}
 use Rattle.sheets.specs.Input.{inputTold}
 use Rattle.cells.specs.Picture.{pictureTold}
@@ -73,7 +74,7 @@ unfolding reserved storedOf applied lowest settingOf pixel plainCode covered cod
 head = refl
 
 -- A raster's line, from its codes in runs.
-raster : (y : ℕ) (r : Codes) (rs : List Codes) → map codeOf (valuesFrom (rasterCell smallRegisters small smallVideo [] y) 0 32) ≡ spread (r ∷ rs)
+raster : (y : ℕ) (r : Codes) (rs : List Codes) → map cellCode (valuesFrom (rasterCell smallRegisters small smallVideo [] y) 0 32) ≡ spread (r ∷ rs)
     → Apart (r .code) rs → rasterLine smallRegisters small smallVideo [] y ≡ runsText (r .code) (suc (r .more)) rs ++ (10 ∷ [])
 unfolding reserved storedOf applied settingOf rasterLine
 raster y r rs e a = line-spread (valuesFrom (rasterCell smallRegisters small smallVideo [] y) 0 32) r rs e a

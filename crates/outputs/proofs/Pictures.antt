@@ -1,6 +1,6 @@
 -- Laws of the strips: by their tests, and of what is told of a picture; a refusal has none.
 use Prim.Native.Nat.{ℕ, _*_, _-_, _<_, _≤_}
-use mathlib.Core.Path.{_≡_, refl, sym, _∙_, ap}
+use mathlib.Core.Path.{_≡_, refl}
 use mathlib.Core.List.{List, []}
 use native.Mathlib.Omega.{arith}
 use native.Mathlib.Nat.{sub-zero}

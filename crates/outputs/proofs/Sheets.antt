@@ -1,19 +1,18 @@
 -- What a plate's text, picture and sound are: those of its own record and lists where it is taken apart, and a refusal's where it is not.
 use Prim.Native.Nat.{ℕ}
-use mathlib.Core.Path.{_≡_, refl, sym, _∙_, ap}
-use mathlib.Core.List.{List, [], _∷_, _++_}
-use Rattle.refusals.specs.Table.{Why, Told, given, refused, andThen}
+use mathlib.Core.Path.{_≡_, sym, _∙_, ap}
+use mathlib.Core.List.{List, []}
+use Rattle.refusals.specs.Table.{Why, given, refused, andThen}
 use Rattle.refusals.proofs.Tables.{and-then-judged}
 use Rattle.registers.specs.Setting.{settingOf}
 use Rattle.registers.specs.Sound.{soundTable, soundTold}
-use Rattle.registers.specs.declared.setting.Setting.{Setting}
 use Rattle.sheets.specs.Sheet.{registersOf, videoList, cursorList, soundList}
 use Rattle.sheets.specs.Input.{inputTable, inputTold}
 use Rattle.cells.specs.Picture.{pictureTable, pictureTold}
-use Rattle.outputs.specs.Sheet.{sheetTable, sheetTold}
+use Rattle.outputs.specs.Sheet.{sheetTold}
 use Rattle.outputs.specs.Text.{refusedLine, firstLines, textBy, pictureText, textOf}
 use Rattle.outputs.specs.Strip.{firstStrips, pictureBy, pictureOf}
-use Rattle.outputs.specs.Wave.{waveTable, waveTold, waveBy, waveOf}
+use Rattle.outputs.specs.Wave.{waveTold, waveBy, waveOf}
 
 module _ (file : List ℕ) where
   sheet-then : sheetTold file ≡ andThen (inputTold file) (λ _. pictureTold (registersOf file) (videoList file) (cursorList file))

@@ -8,7 +8,8 @@ use lib.Dec.{eqb}
 use lib.ListN.{replicate}
 use borrow.Author.Tests.{eq-eqb}
 use Rattle.buffers.specs.Pick.{pick}
-use Rattle.outputs.specs.Runs.{codeOf, run, runsFrom, lineOf}
+use Rattle.colours.specs.Cells.{cellCode}
+use Rattle.outputs.specs.Runs.{run, runsFrom, lineOf}
 
 -- A run: a code, and how often it stands there after the first time.
 pub record Codes : Type 0 where
@@ -43,15 +44,15 @@ lineIn : List ℕ → List ℕ
 lineIn [] = 10 ∷ []
 lineIn (x ∷ xs) = runsIn x 1 xs ++ (10 ∷ [])
 
-by-codes : (c n : ℕ) (l : List ℕ) → runsFrom c n l ≡ runsIn c n (map codeOf l)
+by-codes : (c n : ℕ) (l : List ℕ) → runsFrom c n l ≡ runsIn c n (map cellCode l)
 unfolding runsFrom runsIn
 by-codes c n [] = refl
-by-codes c n (x ∷ l) = rw (by-codes c (suc n) l, by-codes (codeOf x) 1 l)
+by-codes c n (x ∷ l) = rw (by-codes c (suc n) l, by-codes (cellCode x) 1 l)
 
-line-by-codes : (l : List ℕ) → lineOf l ≡ lineIn (map codeOf l)
+line-by-codes : (l : List ℕ) → lineOf l ≡ lineIn (map cellCode l)
 unfolding lineOf lineIn
 line-by-codes [] = refl
-line-by-codes (x ∷ l) = rw (by-codes (codeOf x) 1 l)
+line-by-codes (x ∷ l) = rw (by-codes (cellCode x) 1 l)
 
 same-run : (c n k : ℕ) (rest : List ℕ) → runsIn c n (replicate k c ++ rest) ≡ runsIn c (n + k) rest
 unfolding runsIn
@@ -66,7 +67,7 @@ unfolding runsIn
 runs-spread c n [] a = refl
 runs-spread c n (r ∷ rs) a = rw (a .0, one-run r (spread rs), runs-spread (r .code) (suc (r .more)) rs (a .1))
 
-pub line-spread : (cells : List ℕ) (r : Codes) (rs : List Codes) → map codeOf cells ≡ spread (r ∷ rs) → Apart (r .code) rs
+pub line-spread : (cells : List ℕ) (r : Codes) (rs : List Codes) → map cellCode cells ≡ spread (r ∷ rs) → Apart (r .code) rs
     → lineOf cells ≡ runsText (r .code) (suc (r .more)) rs ++ (10 ∷ [])
 unfolding lineIn
 line-spread cells r rs e a =

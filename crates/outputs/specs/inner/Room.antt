@@ -7,10 +7,11 @@ use lib.ListN.{length, getD, drop}
 use lib.Dec.{eqb, ltb}
 use lib.Seq.{sets}
 use Rattle.buffers.specs.Pick.{pick}
-use Rattle.outputs.specs.Runs.{codeOf, runsFrom, lineOf}
+use Rattle.colours.specs.Cells.{cellCode}
+use Rattle.outputs.specs.Runs.{runsFrom, lineOf}
 
 abbrev pub codeAt : List ℕ → ℕ → ℕ
-codeAt cells i = codeOf (getD cells i 0)
+codeAt cells i = cellCode (getD cells i 0)
 
 -- Whether place i and n places after it have a code.
 abbrev pub sameFrom : ℕ → List ℕ → ℕ → ℕ → Bool

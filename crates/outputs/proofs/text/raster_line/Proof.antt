@@ -1,8 +1,6 @@
 -- The raster is painted into cells of its own, and its line is that of its first N cells.
 use Prim.Native.Nat.{_-_}
-use mathlib.Core.Path.{_≡_}
 use native.Mathlib.Omega.{arith}
-use lib.ListN.{length, take}
 use lib.Seq.{length-take-le}
 use Rattle.outputs.specs.Text.{rasterLine}
 use Rattle.outputs.proofs.Given.{picture-accepted, raster-values}

@@ -3,7 +3,6 @@ use mathlib.Core.Path.{ap}
 use native.Mathlib.Omega.{arith}
 use lib.ListN.{length}
 use lib.Seq.{length-sets}
-use Rattle.buffers.specs.Put.{Put}
 use Rattle.buffers.proofs.Puts.{put-nothing}
 use Rattle.refusals.specs.Refusals.{whyOf}
 use Rattle.outputs.specs.Text.{refusedLine}
