@@ -150,14 +150,3 @@ module _ (g : Registers) (video cursor : List ℕ) where
       → q ≡ sets p at (lineAt g video cursor k) → q ≡ sets o 0 (so-far (k + 1))
   lines-stored o p q k at a b d =
       d ∙ (rw (a, b, lines-next) (sym (rw zero-add at (sets-append o 0 (so-far k) (lineAt g video cursor k)))))
-
-  none-left : (k : ℕ) → lines ≤ k → lineAt g video cursor k ≡ []
-  unfolding lineAt
-  none-left k l = no-more g video cursor told k l
-
-  -- Nothing is left to store.
-  pub lines-done : (o p q : List ℕ) (k at n : ℕ) → p ≡ sets o 0 (so-far k) → k ≤ lines → q ≡ sets p at (lineAt g video cursor k)
-      → n ≡ length (lineAt g video cursor k) → n ≡ 0 → q ≡ sets o 0 (pictureText g video cursor)
-  lines-done o p q k at n a h d e z =
-      let last = last-line k h (sym e ∙ z) in
-      d ∙ (rw (none-left k (omega arith)) (a ∙ ap (sets o 0) (all-lines k last)))

@@ -3,35 +3,14 @@ use crate::text::line;
 use crate::words::put_bytes;
 use registers::record::Registers;
 ghost use mathlib.Core.Path.{_≡_};
-ghost use Prim.Native.Nat.{_≤_, _+_};
+ghost use Prim.Native.Nat.{_≤_};
 ghost use lib.ListN.{length};
 ghost use lib.Seq.{sets};
 ghost use Rattle.buffers.specs.Put.{Put};
-ghost use Rattle.outputs.specs.Text.{lineAt, pictureText, textIn};
+ghost use Rattle.outputs.specs.Text.{pictureText, textIn};
 
 // The head, and a line for each of 1,024 rasters at most.
 const MOST_LINES: usize = 1025;
-
-// Line k stored from a place on, and how many bytes it has.
-fn put_line_at(
-    g: Registers,
-    video: &[u32],
-    cursor: &[u32],
-    k: usize,
-    out: &mut [u8],
-    at: usize,
-) -> usize
-    requires { ⌜ at + length (lineAt g (now video) (now cursor) k) ≤ length (now out) ⌝ }
-    ensures { λ r. ⌜
-        (r ≡ length (lineAt g (now (video .entry)) (now (cursor .entry)) k))
-        × (now (out .exit) ≡ sets (now (out .entry)) at (lineAt g (now (video .entry)) (now (cursor .entry)) k))
-        ⌝ }
-{
-    let mut bytes = [0u8; 8256];
-    let n = line(g, video, cursor, k, &mut bytes);
-    put_bytes(out, at, &bytes[0..n]);
-    n
-}
 
 // How many bytes the text has. A line of no bytes stands after the last.
 fn measure(g: Registers, video: &[u32], cursor: &[u32]) -> usize
@@ -56,14 +35,15 @@ fn put_lines(g: Registers, video: &[u32], cursor: &[u32], out: &mut [u8])
     requires { ⌜ length (pictureText g (now video) (now cursor)) ≤ length (now out) ⌝ }
     ensures { λ _. ⌜ now (out .exit) ≡ sets (now (out .entry)) 0 (pictureText g (now (video .entry)) (now (cursor .entry))) ⌝ }
 {
+    let mut bytes = [0u8; 8256];
     let mut at = 0;
     let mut k = 0;
     while k < MOST_LINES {
-        let n = put_line_at(g, video, cursor, k, out, at);
+        let n = line(g, video, cursor, k, &mut bytes);
         if n == 0 {
             return;
         }
-        at += n;
+        at = put_bytes(out, at, &bytes[0..n]);
         k += 1;
     }
 }
