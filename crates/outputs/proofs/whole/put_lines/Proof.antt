@@ -56,7 +56,8 @@ put-bytes-requires c κs =
     let s = c .before .before .before .before .before .before .before .before .before .before .before in
     let l = c .before .before .before .before .before .before .before .loop in
     let room = lines-room (s .args .g) (s .args .video .now) (s .args .cursor .now) (l .k) (l .inv .1) in
-    rw (put-back _ _ _ _ (c .before .before .before .before .line .ensures)) (omega (arith, room, s .pre, l .inv .2, simp length-sets at (ap length (l .inv .3))))
+    rw (put-back _ _ _ _ (c .before .before .before .before .line .ensures))
+    (omega (arith, room, s .pre, l .inv .2, simp length-sets at (ap length (l .inv .3))))
 
 add-k : tie.Need-add-k Inv-loop μ-loop
 add-k c = search needs
@@ -66,15 +67,16 @@ loop-less c = search needs
 
 loop-again : tie.Need-loop-again Inv-loop μ-loop
 loop-again c =
+    let if1 = c .before .before .before .before .before .before .if1 in
+    let put = c .before .before .before .before .before .before .before .line .ensures in
     let a = c .before .before .before .before .before .before .before .before .before .before .before .before .before .before .args in
     let l = c .before .before .before .before .before .before .before .before .before .before .loop in
-    let put = c .before .before .before .before .before .before .before .line .ensures in
     let back = put-back _ _ _ _ put in
     let copied = c .before .before .put-bytes .ensures in
     let stored = copied .stored ∙ ap (sets (l .out) (l .at)) back in
     let after = copied .after ∙ ap (λ (t : List ℕ). l .at + length t) back in (
       omega arith,
-      more-lines (a .g) (a .video .now) (a .cursor .now) (l .k) (λ z. c .before .before .before .before .before .before .if1 .left (omega (arith, put .after, z))),
+      more-lines (a .g) (a .video .now) (a .cursor .now) (l .k) (λ z. if1 .left (omega (arith, put .after, z))),
       omega (arith, length-next (a .g) (a .video .now) (a .cursor .now) (l .k), after, l .inv .2),
       lines-stored (a .g) (a .video .now) (a .cursor .now) (a .out .now) (l .out) _ (l .k) (l .at) (l .inv .3) (l .inv .2) stored,
       simp length-sets at (ap length (put .stored)) ∙ l .inv .4,
