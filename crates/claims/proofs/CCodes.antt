@@ -21,7 +21,7 @@ use Rattle.vombelishi.specs.Code.{answerCode, withRoom}
 use Rattle.vombelishi.specs.Record.{lacking, recordOf, recordTold, underRecord}
 use Rattle.claims.specs.Calls.{ByTable, Kept}
 use Rattle.claims.specs.CRows.{ofRecord, roomFor}
-use Rattle.claims.specs.CViews.{saidBy}
+use Rattle.claims.specs.CViews.{codeSays}
 use Rattle.claims.proofs.Tables.{by-table}
 
 -- The row that answers fits a number for C.
@@ -64,34 +64,34 @@ fitting-after (r ∷ rs) more f g = (f .0, f .1, λ e. fitting-after rs more (f 
 pub fits-after : {rs more : List Row} → Fits rs → Fits more → Fits (rs ++ more)
 fits-after {rs} {more} f g = record { fits = fitting-after rs more (f .fits) (g .fits) }
 
-said-refused : (w : Why) → 0 < w .number → w .detail < 2 ^ 32 → saidBy (w .number * 2 ^ 32 + w .detail) ≡ refused w
+said-refused : (w : Why) → 0 < w .number → w .detail < 2 ^ 32 → codeSays (w .number * 2 ^ 32 + w .detail) ≡ refused w
 said-refused w h l =
     rw (ne-eqb (w .number * 2 ^ 32 + w .detail) 0 (λ e. omega arith), digits-div (w .number) l, digits-mod (w .number) l)
 
-said : {A : Type 0} (rows : List Row) (a : A) → Fitting rows → saidBy (answerCode (judged rows a)) ≡ judged rows tt
+said : {A : Type 0} (rows : List Row) (a : A) → Fitting rows → codeSays (answerCode (judged rows a)) ≡ judged rows tt
 said [] a f = refl
 said (r ∷ rs) a f = go (r .when) (f .1) (λ e. said rs a (f .2 e))
   where
-    go : (b : Bool) → (b ≡ true → r .tells .detail < 2 ^ 32) → (b ≡ false → saidBy (answerCode (judged rs a)) ≡ judged rs tt)
-        → saidBy (answerCode (pick b (refused (r .tells)) (judged rs a))) ≡ pick b (refused (r .tells)) (judged rs tt)
+    go : (b : Bool) → (b ≡ true → r .tells .detail < 2 ^ 32) → (b ≡ false → codeSays (answerCode (judged rs a)) ≡ judged rs tt)
+        → codeSays (answerCode (pick b (refused (r .tells)) (judged rs a))) ≡ pick b (refused (r .tells)) (judged rs tt)
     go true l more = said-refused (r .tells) (f .0) (l refl)
     go false l more = more refl
 
 -- A call that answers the number of a table goes by that table.
 pub by-code : {A : Type 0} {t : Told A} {code : ℕ} (rows : List Row) (a : A) → Fits rows → t ≡ judged rows a → code ≡ answerCode t
-    → ByTable (saidBy code) rows tt
-by-code rows a f e c = by-table tt rows (ap saidBy (c ∙ ap answerCode e) ∙ said rows a (f .fits))
+    → ByTable (codeSays code) rows tt
+by-code rows a f e c = by-table tt rows (ap codeSays (c ∙ ap answerCode e) ∙ said rows a (f .fits))
 
 -- What is left as it was where a call is refused.
 pub kept-code : {A B : Type 0} (t : Told A) {code : ℕ} {before after : B} (leaves : Told A → B) → code ≡ answerCode t → after ≡ leaves t
-    → ((w : Why) → leaves (refused w) ≡ before) → Kept (saidBy code) before after
-kept-code (given a) leaves c e was w r = never (sym (ap saidBy c) ∙ r)
+    → ((w : Why) → leaves (refused w) ≡ before) → Kept (codeSays code) before after
+kept-code (given a) leaves c e was w r = never (sym (ap codeSays c) ∙ r)
 kept-code (refused v) leaves c e was w r = e ∙ was v
 
 -- The same under a record that may not be there.
 pub kept-under : {A B : Type 0} (t : Told Registers) (tells : Registers → Told A) (holds : Registers → B) (then : Registers → B) {code : ℕ} {before after : B}
     → ((g : Registers) → holds g ≡ unlessRefused (tells g) before (then g)) → code ≡ answerCode (andThen t tells) → after ≡ underRecord t before holds
-    → Kept (saidBy code) before after
+    → Kept (codeSays code) before after
 kept-under (given g) tells holds then {before = before} law c e = kept-code (tells g) (λ u. unlessRefused u before (then g)) c (e ∙ law g) (λ w. refl)
 kept-under (refused v) tells holds then law c e = λ w r. e
 
@@ -112,7 +112,7 @@ record-fits values written own f = plain (omega arith) (f (recordOf values writt
 
 pub record-code : {A : Type 0} {code : ℕ} (values written : List ℕ) (tells : Registers → Told A) (own : Registers → List Row) (a : Registers → A)
     → ((g : Registers) → Fits (own g)) → ((g : Registers) → tells g ≡ judged (own g) (a g)) → code ≡ answerCode (andThen (recordTold values written) tells)
-    → ByTable (saidBy code) (ofRecord values written own) tt
+    → ByTable (codeSays code) (ofRecord values written own) tt
 record-code values written tells own a f e c =
     by-code (ofRecord values written own) (a (recordOf values written)) (record-fits values written own f) (record-told values written tells own a e) c
 
@@ -135,7 +135,7 @@ pub room-fits : (needed places : ℕ) → Fits (roomFor needed places)
 room-fits needed places = plain (omega arith) no-rows
 
 pub room-code : {A B : Type 0} {t : Told A} {code : ℕ} (needed places : ℕ) (values : A → B) (rows : List Row) (a : A) → Fits rows → t ≡ judged rows a
-    → code ≡ answerCode (withRoom needed places (andThen t (λ b. given (values b)))) → ByTable (saidBy code) (rows ++ roomFor needed places) tt
+    → code ≡ answerCode (withRoom needed places (andThen t (λ b. given (values b)))) → ByTable (codeSays code) (rows ++ roomFor needed places) tt
 room-code needed places values rows a f e c =
     by-code (rows ++ roomFor needed places) (values a) (fits-after f (room-fits needed places))
     (room-told needed places values rows a e) c

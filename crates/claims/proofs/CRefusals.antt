@@ -32,7 +32,8 @@ use Rattle.plates.specs.Write.{writeTable, writeTold}
 use Rattle.outputs.specs.Text.{textOf}
 use Rattle.vombelishi.specs.Code.{storedBy, cellBy}
 use Rattle.vombelishi.specs.Record.{recordOf, recordTold}
-use Rattle.vombelishi.specs.Load.{valueStored, flagStored, valuesStored, flagsStored, loadCall, loadValues, loadWritten, wordCall, wordValues, wordWritten}
+use Rattle.vombelishi.specs.Load.{valueStored, flagStored, valuesStored, flagsStored, loadCall, loadValuesLeaves, loadWrittenLeaves}
+use Rattle.vombelishi.specs.Load.{wordCall, wordValuesLeaves, wordWrittenLeaves}
 use Rattle.vombelishi.specs.Settings.{numbersOf, settingTold, checkCall, checkSoundCall}
 use Rattle.vombelishi.specs.Pictures.{frameCall, frameCallLeaves, rasterCall, rasterCallLeaves, foundTold, wordsCall, marksCall, colourCall}
 use Rattle.vombelishi.specs.Sounds.{soundCall, soundLeaves, counterLeaves, pairCall}
@@ -98,7 +99,7 @@ vom-text-numbers file places = refl
 pub vom-load-refuses : Every c.load λ run.
     ByTable (run .answer) (ofRecord (run .values) (run .written) λ g. loadTable (run .words)) tt
     × Kept (run .answer) (run .values) (run .values-after) × Kept (run .answer) (run .written) (run .written-after)
-unfolding loadCall loadValues loadWritten
+unfolding loadCall loadValuesLeaves loadWrittenLeaves
 vom-load-refuses κs a x s p =
     let run : LoadRun (List ℕ) = c.load .seen κs a x s in
     let t = loadCall (run .values) (run .written) (run .words) in (
@@ -111,7 +112,7 @@ vom-load-refuses κs a x s p =
 pub vom-load-word-refuses : Every c.loadWord λ run.
     ByTable (run .answer) (ofRecord (run .values) (run .written) λ g. wordTable (run .words)) tt
     × Kept (run .answer) (run .values) (run .values-after) × Kept (run .answer) (run .written) (run .written-after)
-unfolding wordCall wordValues wordWritten
+unfolding wordCall wordValuesLeaves wordWrittenLeaves
 vom-load-word-refuses κs a x s p =
     let run : LoadRun ℕ = c.loadWord .seen κs a x s in
     let t = wordCall (run .values) (run .written) (run .words) in (

@@ -39,8 +39,8 @@ use Rattle.vombelishi.proofs.texts.vom_text.Reads as text-reads
 use Rattle.claims.specs.Calls.{Call, call}
 
 -- What a caller reads in the number that a call answers: 0 is success, else the refusal's number is above 2^32 and its detail below.
-abbrev pub saidBy : ℕ → Told (Unit {0})
-saidBy code = pick (eqb code 0) (given tt) (refused (why (code / 2 ^ 32) (code % 2 ^ 32)))
+abbrev pub codeSays : ℕ → Told (Unit {0})
+codeSays code = pick (eqb code 0) (given tt) (refused (why (code / 2 ^ 32) (code % 2 ^ 32)))
 
 -- Loading a list, or one word.
 pub record LoadRun (W : Type 0) : Type 0 where
@@ -57,7 +57,7 @@ load = call 3 load-kinds.ps load-kinds.r load-reads.Post (LoadRun (List ℕ))
       values = now (a .0);
       written = now (a .1 .0);
       words = now (a .1 .1 .0);
-      answer = saidBy x;
+      answer = codeSays x;
       values-after = now (s .0);
       written-after = now (s .1 .0);
     }
@@ -68,7 +68,7 @@ loadWord = call 2 load-word-kinds.ps load-word-kinds.r load-word-reads.Post (Loa
       values = now (a .0);
       written = now (a .1 .0);
       words = a .1 .1 .0;
-      answer = saidBy x;
+      answer = codeSays x;
       values-after = now (s .0);
       written-after = now (s .1 .0);
     }
@@ -86,7 +86,7 @@ check = call 3 check-kinds.ps check-kinds.r check-reads.Post CheckRun
     λ κs a x s. record {
       values = now (a .0);
       written = now (a .1 .0);
-      answer = saidBy x;
+      answer = codeSays x;
       before = now (a .1 .1 .0);
       after = now (s .1 .1 .0);
     }
@@ -98,7 +98,7 @@ pub record CheckSoundRun : Type 0 where
 
 abbrev pub checkSound : Call
 checkSound = call 2 check-sound-kinds.ps check-sound-kinds.r check-sound-reads.Post CheckSoundRun
-    λ κs a x s. record { values = now (a .0); written = now (a .1 .0); answer = saidBy x }
+    λ κs a x s. record { values = now (a .0); written = now (a .1 .0); answer = codeSays x }
 
 -- The frame, one raster of it, where a raster's words stand, the mark count, a pixel's colour.
 pub record FrameRun : Type 0 where
@@ -117,7 +117,7 @@ frame = call 5 frame-kinds.ps frame-kinds.r frame-reads.Post FrameRun
       written = now (a .1 .0);
       video = now (a .1 .1 .0);
       cursor = now (a .1 .1 .1 .0);
-      answer = saidBy x;
+      answer = codeSays x;
       before = now (a .1 .1 .1 .1 .0);
       after = now (s .1 .1 .1 .1 .0);
     }
@@ -140,7 +140,7 @@ raster = call 5 raster-kinds.ps raster-kinds.r raster-reads.Post RasterRun
       video = now (a .1 .1 .0);
       cursor = now (a .1 .1 .1 .0);
       raster = a .1 .1 .1 .1 .0;
-      answer = saidBy x;
+      answer = codeSays x;
       before = now (a .1 .1 .1 .1 .1 .0);
       after = now (s .1 .1 .1 .1 .1 .0);
     }
@@ -161,7 +161,7 @@ rasterWords = call 4 raster-words-kinds.ps raster-words-kinds.r raster-words-rea
       written = now (a .1 .0);
       video = now (a .1 .1 .0);
       raster = a .1 .1 .1 .0;
-      answer = saidBy x;
+      answer = codeSays x;
       before = now (a .1 .1 .1 .1 .0);
       after = now (s .1 .1 .1 .1 .0);
     }
@@ -184,7 +184,7 @@ marks = call 5 marks-kinds.ps marks-kinds.r marks-reads.Post MarksRun
       video = now (a .1 .1 .0);
       cursor = now (a .1 .1 .1 .0);
       threshold = a .1 .1 .1 .1 .0;
-      answer = saidBy x;
+      answer = codeSays x;
       before = now (a .1 .1 .1 .1 .1 .0);
       after = now (s .1 .1 .1 .1 .1 .0);
     }
@@ -205,7 +205,7 @@ colour = call 3 colour-kinds.ps colour-kinds.r colour-reads.Post ColourRun
       written = now (a .1 .0);
       depth = a .1 .1 .0;
       pixel = a .1 .1 .1 .0;
-      answer = saidBy x;
+      answer = codeSays x;
       before = now (a .1 .1 .1 .1 .0);
       after = now (s .1 .1 .1 .1 .0);
     }
@@ -227,7 +227,7 @@ sound = call 5 sound-kinds.ps sound-kinds.r sound-reads.Post SoundRun
       values = now (a .0);
       written = now (a .1 .0);
       words = now (a .1 .1 .0);
-      answer = saidBy x;
+      answer = codeSays x;
       counter = now (a .1 .1 .1 .0);
       counted = now (s .1 .1 .1 .0);
       before = now (a .1 .1 .1 .1 .0);
@@ -243,7 +243,7 @@ pub record PairRun : Type 0 where
 
 abbrev pub soundPair : Call
 soundPair = call 1 sound-pair-kinds.ps sound-pair-kinds.r sound-pair-reads.Post PairRun
-    λ κs a x s. record { byte = a .0; stereo = a .1 .0; answer = saidBy x; before = now (a .1 .1 .0); after = now (s .1 .1 .0) }
+    λ κs a x s. record { byte = a .0; stereo = a .1 .0; answer = codeSays x; before = now (a .1 .1 .0); after = now (s .1 .1 .0) }
 
 -- Plate files: read, copied out, written, and their text; with the cell for a length.
 pub record FileRun : Type 0 where
@@ -254,11 +254,11 @@ pub record FileRun : Type 0 where
 
 abbrev pub read : Call
 read = call 2 read-kinds.ps read-kinds.r read-reads.Post FileRun
-    λ κs a x s. record { file = now (a .0); answer = saidBy x; before = now (a .1 .0); after = now (s .1 .0) }
+    λ κs a x s. record { file = now (a .0); answer = codeSays x; before = now (a .1 .0); after = now (s .1 .0) }
 
 abbrev pub copy : Call
 copy = call 2 copy-kinds.ps copy-kinds.r copy-reads.Post FileRun
-    λ κs a x s. record { file = now (a .0); answer = saidBy x; before = now (a .1 .0); after = now (s .1 .0) }
+    λ κs a x s. record { file = now (a .0); answer = codeSays x; before = now (a .1 .0); after = now (s .1 .0) }
 
 pub record WriteRun : Type 0 where
   pub registers : List ℕ
@@ -278,7 +278,7 @@ write = call 6 write-kinds.ps write-kinds.r write-reads.Post WriteRun
       video = now (a .1 .0);
       cursor = now (a .1 .1 .0);
       sound = now (a .1 .1 .1 .0);
-      answer = saidBy x;
+      answer = codeSays x;
       before = now (a .1 .1 .1 .1 .0);
       after = now (s .1 .1 .1 .1 .0);
       size = now (a .1 .1 .1 .1 .1 .0);
@@ -297,7 +297,7 @@ abbrev pub text : Call
 text = call 3 text-kinds.ps text-kinds.r text-reads.Post TextRun
     λ κs a x s. record {
       file = now (a .0);
-      answer = saidBy x;
+      answer = codeSays x;
       before = now (a .1 .0);
       after = now (s .1 .0);
       size = now (a .1 .1 .0);

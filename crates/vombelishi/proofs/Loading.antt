@@ -15,8 +15,8 @@ use Rattle.registers.specs.Load.{leading, applied, loadTable, loadTold}
 use Rattle.registers.proofs.Reserved.{unreserved}
 use Rattle.refusals.proofs.Tables.{never, given-passes}
 use Rattle.vombelishi.specs.Record.{isSet, recordOf, recordTold}
-use Rattle.vombelishi.specs.Load.{valueStored, flagStored, valuesStored, flagsStored, loadCall, loadValues, loadWritten, wordCall}
-use Rattle.vombelishi.specs.Load.{wordValues, wordWritten}
+use Rattle.vombelishi.specs.Load.{valueStored, flagStored, valuesStored, flagsStored, loadCall, loadValuesLeaves, loadWrittenLeaves, wordCall}
+use Rattle.vombelishi.specs.Load.{wordValuesLeaves, wordWrittenLeaves}
 
 -- A list l, in which the words from i on are still to be stored, for a list as it came.
 module _ (words : List ℕ) (i : ℕ) where
@@ -104,9 +104,9 @@ module _ (values written : List ℕ) where
       given-passes tt (row 2 (reserved (slotOf word)) 0 ∷ []) u (accepted-call (recordTold values written) _ u e) .0 .0
 
   -- The record of both lists after a list was loaded: as the register library leaves it,
-  pub record-loaded : (words : List ℕ) → recordOf (loadValues values written words) (loadWritten values written words)
+  pub record-loaded : (words : List ℕ) → recordOf (loadValuesLeaves values written words) (loadWrittenLeaves values written words)
       ≡ unlessRefused (loadCall values written words) (recordOf values written) (applied (recordOf values written) words)
-  unfolding loadValues loadWritten
+  unfolding loadValuesLeaves loadWrittenLeaves
   record-loaded words = go (loadCall values written words) refl
     where
       go : (t : Told (Unit {0})) → loadCall values written words ≡ t
@@ -116,9 +116,9 @@ module _ (values written : List ℕ) where
       go (refused w) e = refl
 
   -- and after one word.
-  pub record-stored : (word : ℕ) → recordOf (wordValues values written word) (wordWritten values written word)
+  pub record-stored : (word : ℕ) → recordOf (wordValuesLeaves values written word) (wordWrittenLeaves values written word)
       ≡ unlessRefused (wordCall values written word) (recordOf values written) (storedOf (recordOf values written) word)
-  unfolding wordValues wordWritten
+  unfolding wordValuesLeaves wordWrittenLeaves
   record-stored word = go (wordCall values written word) refl
     where
       go : (t : Told (Unit {0})) → wordCall values written word ≡ t

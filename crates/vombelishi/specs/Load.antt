@@ -27,18 +27,18 @@ flagsStored written (w ∷ ws) = flagsStored (flagStored written w) ws
 unfoldable pub loadCall : List ℕ → List ℕ → List ℕ → Told (Unit {0})
 loadCall values written words = andThen (recordTold values written) (λ g. loadTold words)
 
-unfoldable pub loadValues : List ℕ → List ℕ → List ℕ → List ℕ
-loadValues values written words = unlessRefused (loadCall values written words) values (valuesStored values words)
+unfoldable pub loadValuesLeaves : List ℕ → List ℕ → List ℕ → List ℕ
+loadValuesLeaves values written words = unlessRefused (loadCall values written words) values (valuesStored values words)
 
-unfoldable pub loadWritten : List ℕ → List ℕ → List ℕ → List ℕ
-loadWritten values written words = unlessRefused (loadCall values written words) written (flagsStored written words)
+unfoldable pub loadWrittenLeaves : List ℕ → List ℕ → List ℕ → List ℕ
+loadWrittenLeaves values written words = unlessRefused (loadCall values written words) written (flagsStored written words)
 
 -- One word alone.
 unfoldable pub wordCall : List ℕ → List ℕ → ℕ → Told (Unit {0})
 wordCall values written word = andThen (recordTold values written) (λ g. wordTold word)
 
-unfoldable pub wordValues : List ℕ → List ℕ → ℕ → List ℕ
-wordValues values written word = unlessRefused (wordCall values written word) values (valueStored values word)
+unfoldable pub wordValuesLeaves : List ℕ → List ℕ → ℕ → List ℕ
+wordValuesLeaves values written word = unlessRefused (wordCall values written word) values (valueStored values word)
 
-unfoldable pub wordWritten : List ℕ → List ℕ → ℕ → List ℕ
-wordWritten values written word = unlessRefused (wordCall values written word) written (flagStored written word)
+unfoldable pub wordWrittenLeaves : List ℕ → List ℕ → ℕ → List ℕ
+wordWrittenLeaves values written word = unlessRefused (wordCall values written word) written (flagStored written word)

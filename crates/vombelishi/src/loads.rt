@@ -10,7 +10,7 @@ ghost use lib.ListN.{length};
 ghost use Rattle.refusals.specs.Refusals.{answerSays};
 ghost use Rattle.vombelishi.specs.Code.{answerCode};
 ghost use Rattle.vombelishi.specs.Load.{valueStored, flagStored, valuesStored, flagsStored};
-ghost use Rattle.vombelishi.specs.Load.{loadCall, loadValues, loadWritten, wordCall, wordValues, wordWritten};
+ghost use Rattle.vombelishi.specs.Load.{loadCall, loadValuesLeaves, loadWrittenLeaves, wordCall, wordValuesLeaves, wordWrittenLeaves};
 
 // Whether a list is accepted does not hang on the record's contents, so a fresh one judges it.
 fn judge_list(values: &[u32], written: &[u8], words: &[u32]) -> Answer
@@ -64,8 +64,8 @@ fn put_list(values: &mut [u32], written: &mut [u8], words: &[u32])
 pub extern "C" fn vom_load(values: &mut [u32], written: &mut [u8], words: &[u32]) -> u64
     ensures { λ r. ⌜
         (r ≡ answerCode (loadCall (now (values .entry)) (now (written .entry)) (now (words .entry))))
-        × (now (values .exit) ≡ loadValues (now (values .entry)) (now (written .entry)) (now (words .entry)))
-        × (now (written .exit) ≡ loadWritten (now (values .entry)) (now (written .entry)) (now (words .entry)))
+        × (now (values .exit) ≡ loadValuesLeaves (now (values .entry)) (now (written .entry)) (now (words .entry)))
+        × (now (written .exit) ≡ loadWrittenLeaves (now (values .entry)) (now (written .entry)) (now (words .entry)))
         ⌝ }
 {
     match judge_list(values, written, words) {
@@ -82,8 +82,8 @@ pub extern "C" fn vom_load(values: &mut [u32], written: &mut [u8], words: &[u32]
 pub extern "C" fn vom_load_word(values: &mut [u32], written: &mut [u8], word: u32) -> u64
     ensures { λ r. ⌜
         (r ≡ answerCode (wordCall (now (values .entry)) (now (written .entry)) word))
-        × (now (values .exit) ≡ wordValues (now (values .entry)) (now (written .entry)) word)
-        × (now (written .exit) ≡ wordWritten (now (values .entry)) (now (written .entry)) word)
+        × (now (values .exit) ≡ wordValuesLeaves (now (values .entry)) (now (written .entry)) word)
+        × (now (written .exit) ≡ wordWrittenLeaves (now (values .entry)) (now (written .entry)) word)
         ⌝ }
 {
     match judge_word(values, written, word) {

@@ -3,7 +3,7 @@ use borrow.Author.Needs.{needs}
 use mathlib.Core.Path.{sym, _∙_, ap}
 use Rattle.refusals.specs.Refusals.{answerSays}
 use Rattle.registers.specs.Load.{loadTold}
-use Rattle.vombelishi.specs.Load.{valuesStored, flagsStored, loadCall, loadValues, loadWritten}
+use Rattle.vombelishi.specs.Load.{valuesStored, flagsStored, loadCall, loadValuesLeaves, loadWrittenLeaves}
 use Rattle.vombelishi.proofs.Answers.{twofold-refused, twofold-done}
 use Rattle.vombelishi.proofs.Records.{not-short}
 use Rattle.vombelishi.proofs.loads.vom_load.Statement.{statement}
@@ -35,7 +35,7 @@ same-length-2 : tie.Need-same-length-2
 same-length-2 c = search needs
 
 returns : tie.Need-returns
-unfolding loadValues loadWritten
+unfolding loadValuesLeaves loadWrittenLeaves
 returns c =
     let args = c .before .before .before .before .before .before .before .before .before .before .args in
     twofold-refused (loadCall (args .values .now) (args .written .now) (args .words .now))
@@ -49,7 +49,7 @@ same-length-4 : tie.Need-same-length-4
 same-length-4 c = search needs
 
 returns-2 : tie.Need-returns-2
-unfolding loadValues loadWritten
+unfolding loadValuesLeaves loadWrittenLeaves
 returns-2 c =
     let args = c .before .before .before .before .before .before .before .before .before .before .before .before .before .before .before .args in
     let judged = c .before .before .before .before .before .before .before .before .before .judge-list in

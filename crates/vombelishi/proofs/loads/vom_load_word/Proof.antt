@@ -3,7 +3,7 @@ use borrow.Author.Needs.{needs}
 use mathlib.Core.Path.{sym, _∙_, ap}
 use Rattle.refusals.specs.Refusals.{answerSays}
 use Rattle.registers.specs.Record.{wordTold}
-use Rattle.vombelishi.specs.Load.{valueStored, flagStored, wordCall, wordValues, wordWritten}
+use Rattle.vombelishi.specs.Load.{valueStored, flagStored, wordCall, wordValuesLeaves, wordWrittenLeaves}
 use Rattle.vombelishi.proofs.Answers.{twofold-refused, twofold-done}
 use Rattle.vombelishi.proofs.Records.{not-short}
 use Rattle.vombelishi.proofs.loads.vom_load_word.Statement.{statement}
@@ -35,7 +35,7 @@ same-length-2 : tie.Need-same-length-2
 same-length-2 c = search needs
 
 returns : tie.Need-returns
-unfolding wordValues wordWritten
+unfolding wordValuesLeaves wordWrittenLeaves
 returns c =
     let args = c .before .before .before .before .before .before .before .before .before .args in
     twofold-refused (wordCall (args .values .now) (args .written .now) (args .word))
@@ -49,7 +49,7 @@ same-length-4 : tie.Need-same-length-4
 same-length-4 c = search needs
 
 returns-2 : tie.Need-returns-2
-unfolding wordValues wordWritten
+unfolding wordValuesLeaves wordWrittenLeaves
 returns-2 c =
     let args = c .before .before .before .before .before .before .before .before .before .before .before .before .before .before .args in
     let judged = c .before .before .before .before .before .before .before .before .before .judge-word in
