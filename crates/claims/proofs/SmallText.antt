@@ -25,7 +25,6 @@ use Rattle.colours.specs.Cells.{cellCode}
 use Rattle.outputs.specs.Runs.{run}
 use Rattle.sheets.specs.Sheet.{registerWords, videoList, cursorList, registersOf}
 use Rattle.sheets.specs.Input.{inputTold}
-use Rattle.cells.specs.Picture.{pictureTold}
 use Rattle.outputs.specs.Sheet.{sheetTold}
 use Rattle.outputs.specs.Text.{labelled, headLine, rasterLine, pictureHead, pictureLine, firstLines, textBy, textOf}
 use Rattle.outputs.proofs.Sheets.{sheet-taken}

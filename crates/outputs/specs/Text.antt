@@ -14,7 +14,6 @@ use Rattle.marks.specs.Marks.{marksOf}
 use Rattle.outputs.specs.Decimal.{decimal}
 use Rattle.outputs.specs.Runs.{lineOf}
 use Rattle.sheets.specs.Sheet.{registersOf, videoList, cursorList}
-use Rattle.cells.specs.Picture.{pictureTold}
 use Rattle.outputs.specs.Sheet.{sheetTold}
 
 -- A number behind some letters.

@@ -1,6 +1,5 @@
 -- A plate file taken apart: its four lists, the record that its register words leave, and its refusals in the order 14, 1, 2, 13.
 use Prim.Native.Nat.{ℕ, _-_}
-use mathlib.Core.Bool.{not}
 use mathlib.Core.List.{List, [], _∷_, _++_}
 use lib.Dec.{ltb}
 use lib.ListN.{length, take, drop}
@@ -9,8 +8,8 @@ use Rattle.refusals.specs.Table.{Told, Row, row, judged, unlessRefused}
 use Rattle.registers.specs.Record.{fresh}
 use Rattle.registers.specs.Load.{applied, loadTable}
 use Rattle.registers.specs.declared.record.Registers.{Registers}
-use Rattle.plates.specs.Plate.{right, rOf, vOf, cOf, sOf}
-use Rattle.plates.specs.Read.{copied}
+use Rattle.plates.specs.Plate.{rOf, vOf, cOf, sOf}
+use Rattle.plates.specs.Read.{readTable, copied}
 use Rattle.sheets.specs.declared.Parts.{Parts}
 
 -- The words from one place up to another.
@@ -51,7 +50,7 @@ noParts = record { registers = fresh; video = 0; cursor = 0; sound = 0; end = 0 
 
 -- 14, then 1 and 2 of the register words.
 abbrev pub plateTable : List ℕ → List Row
-plateTable file = row 14 (not (right file)) 0 ∷ loadTable (registerWords file)
+plateTable file = readTable file ++ loadTable (registerWords file)
 
 -- Taken apart into a list of some places, which is 13 where they are too few for all words.
 abbrev pub takeTable : List ℕ → ℕ → List Row
