@@ -2,9 +2,11 @@ pub mod Coincide
 pub mod Product
 pub mod Sets
 pub mod Words
+pub mod Turns
 pub mod Tests
 pub mod Table
 pub mod Split
 pub mod Paints
 pub mod Puts
 pub mod Values
+pub mod Unique

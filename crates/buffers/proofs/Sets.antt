@@ -1,12 +1,12 @@
 -- Stores one after another: a loop that stores a list's elements in order has, at each turn, the whole left to store.
-use mathlib.Core.Path.{_≡_, sym, _∙_, ap}
+use mathlib.Core.Path.{_≡_, refl, sym, _∙_, ap}
 use mathlib.Core.List.{List, [], _∷_, _++_}
 use Prim.Native.Nat.{ℕ, suc, _+_, _-_, _≤_, _<_}
 use native.Mathlib.Numerals.{add-one}
 use native.Mathlib.Nat.{add-zero, add-suc, suc-add}
 use native.Mathlib.Omega.{arith}
 use lib.ListN.{length, getD, set, drop, drop-of-length-le, List·getD-append}
-use lib.Seq.{sets, drop-cons, sets-eq, getD-append-add, getD-drop}
+use lib.Seq.{sets, set-out, drop-cons, sets-eq, getD-append-add, getD-drop}
 
 module _ {A : Type 0} where
   pub sets-append : (l : List A) (i : ℕ) (xs ys : List A) → sets l i (xs ++ ys) ≡ sets (sets l i xs) (i + length xs) ys
@@ -23,6 +23,11 @@ module _ {A : Type 0} where
 
   pub sets-done : (l vs : List A) (k i : ℕ) → length vs ≤ k → sets l i (drop k vs) ≡ l
   sets-done l vs k i h = rw (drop-of-length-le vs h)
+
+  -- places past the end are passed over
+  pub sets-past : (l vs : List A) (i : ℕ) → length l ≤ i → sets l i vs ≡ l
+  sets-past l [] i h = refl
+  sets-past l (v ∷ vs) i h = rw (set-out l i v h) (sets-past l vs (suc i) (omega arith))
 
   -- four stores in a row
   pub sets-four :

@@ -1,5 +1,6 @@
 -- Answers coincide: for every public call of every library, the theorem of its own contract, in one list.
 -- Of `raster_words` it says that any two answers read the same words at the same place.
+pub use Rattle.buffers.proofs.Unique.{one-least, one-joined, one-copy-words, one-put-words}
 pub use Rattle.refusals.proofs.Unique.{one-number, one-detail}
 pub use Rattle.registers.proofs.Unique.{one-pixels, one-width-from, one-height-from, one-of-value, one-is-reserved}
 pub use Rattle.registers.proofs.Unique.{one-addresses, one-of-slots, one-new, one-store, one-palette, one-border, one-cursor-colour}

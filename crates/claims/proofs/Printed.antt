@@ -9,7 +9,7 @@ use lib.Dec.{eqb}
 use lib.Seq.{sets}
 use borrow.Author.Tests.{eq-eqb, ne-eqb}
 use Rattle.buffers.specs.Pick.{pick}
-use Rattle.buffers.specs.Put.{Put}
+use Rattle.buffers.specs.Put.{Put, textIn}
 use Rattle.refusals.specs.Table.{Why, Told, given, refused, Row, First}
 use Rattle.registers.specs.Setting.{settingOf}
 use Rattle.registers.specs.Sound.{soundTable, soundTold}
@@ -19,7 +19,7 @@ use Rattle.sheets.specs.Sheet.{registersOf, takeTable, takeTold}
 use Rattle.sheets.specs.Input.{inputTable, inputTold}
 use Rattle.cells.specs.Picture.{pictureTable, pictureTold}
 use Rattle.outputs.specs.Sheet.{sheetTable, sheetTold}
-use Rattle.outputs.specs.Text.{refusedLine, pictureLine, lineBy, lineAt, firstLines, textBy, pictureText, textOf, textIn}
+use Rattle.outputs.specs.Text.{refusedLine, pictureLine, lineBy, lineAt, firstLines, textBy, pictureText, textOf}
 use Rattle.outputs.specs.Strip.{pictureStrip, stripBy, stripAt, firstStrips, pictureBy, pictureOf}
 use Rattle.outputs.specs.Wave.{waveTable, waveTold, waveOf, refusalBy, soundRefusal, waveBlock, blockBy, blockAt}
 use Rattle.claims.specs.Calls.{Every, numbers, ByTable, Kept}

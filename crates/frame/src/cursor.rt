@@ -1,6 +1,6 @@
 // The cursor over one raster: its up to 32 positions, cut to the border.
-use crate::units::least;
 use crate::units::wide;
+use buffers::least;
 use registers::setting::Setting;
 use registers::units::Rasters;
 ghost use mathlib.Core.Bool.{_&&_};

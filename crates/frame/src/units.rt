@@ -3,22 +3,12 @@ use registers::setting::Setting;
 use registers::units::Pixels;
 use registers::units::Rasters;
 ghost use mathlib.Core.Path.{_≡_};
-ghost use Prim.Native.Nat.{min};
 ghost use Rattle.cells.specs.Cell.{within};
 
 pub fn wide(p: Pixels) -> usize
     ensures { λ r. ⌜ r ≡ p .0 ⌝ }
 {
     p.0 as usize
-}
-
-pub fn least(a: usize, b: usize) -> usize
-    ensures { λ r. ⌜ r ≡ min a b ⌝ }
-{
-    if a < b {
-        return a;
-    }
-    b
 }
 
 // Raster y is one of the display's.

@@ -6,7 +6,8 @@ use native.Mathlib.Omega.{arith}
 use native.Mathlib.Nat.{sub-zero}
 use lib.ListN.{length, take}
 use borrow.Author.Tests.{lt-leb, le-leb, eq-eqb, ne-eqb}
-use Rattle.buffers.specs.Put.{Put}
+use Rattle.buffers.specs.Put.{Put, textIn}
+use Rattle.buffers.proofs.Puts.{text-fits}
 use Rattle.refusals.specs.Table.{Told, given, refused}
 use Rattle.refusals.specs.declared.Refusal.{Refusal}
 use Rattle.registers.specs.Check.{checkSays}
@@ -14,8 +15,8 @@ use Rattle.registers.specs.declared.record.Registers.{Registers}
 use Rattle.registers.specs.declared.setting.Setting.{Setting}
 use Rattle.registers.specs.declared.check.Checked.{Checked}
 use Rattle.registers.specs.declared.check.Checked.the-variants as checked
-use Rattle.pictures.specs.Colours.{gunsOf, gunsIn}
-use Rattle.pictures.proofs.Stored.{some-room}
+use Rattle.pictures.specs.Colours.{gunsOf}
+use Rattle.pictures.proofs.Stored.{length-guns}
 use Rattle.cells.specs.Picture.{pictureTold}
 use Rattle.outputs.specs.Strip.{stripHead, rasterStrip, pictureStrip, stripBy, stripAt, stripsFor}
 
@@ -45,8 +46,10 @@ module _ (g : Registers) (video cursor : List ℕ) (k : ℕ) (x : Checked) (e : 
 
 -- the first n cells as a part of them, with room for their bytes
 pub part-guns : {o p : List ℕ} {r : ℕ} (n room : ℕ) (cells vs : List ℕ) → take n cells ≡ vs → 3 * length (take (n - 0) cells) ≤ room
-    → Put o p 0 (gunsIn room (take (n - 0) cells)) r → Put o p 0 (gunsOf vs) r
-part-guns n room cells vs e h t = rw (← e, ← sub-zero n, ← some-room room (take (n - 0) cells) h) t
+    → Put o p 0 (textIn room (gunsOf (take (n - 0) cells))) r → Put o p 0 (gunsOf vs) r
+part-guns n room cells vs e h t =
+    let part : List ℕ = take (n - 0) cells in
+    rw (← e, ← sub-zero n, ← text-fits room (gunsOf part) (omega (arith, length-guns part))) t
 
 -- past the last strip there is nothing: the whole file is the strips before it, one after the other
 pub no-more-strips : (g : Registers) (video cursor : List ℕ) (t : Told Setting) (k : ℕ) → stripsFor t ≤ k → stripBy g video cursor t k ≡ []

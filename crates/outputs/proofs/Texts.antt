@@ -6,7 +6,7 @@ use native.Mathlib.Nat.{sub-zero}
 use native.Mathlib.Omega.{arith}
 use lib.ListN.{length, take, drop}
 use lib.Seq.{sets-eq, take-append-seam}
-use borrow.Author.Tests.{lt-leb, le-leb, eq-eqb, ne-eqb, lt-ltb, le-ltb}
+use borrow.Author.Tests.{lt-leb, le-leb, eq-eqb, ne-eqb}
 use Rattle.buffers.specs.Put.{Put}
 use Rattle.refusals.specs.Table.{Told, given, refused}
 use Rattle.refusals.specs.Refusals.{whyOf}
@@ -18,7 +18,7 @@ use Rattle.registers.specs.declared.check.Checked.{Checked}
 use Rattle.registers.specs.declared.check.Checked.the-variants as checked
 use Rattle.outputs.specs.Runs.{lineOf}
 use Rattle.cells.specs.Picture.{pictureTold}
-use Rattle.outputs.specs.Text.{refusedLine, rasterLine, pictureHead, pictureLine, lineBy, lineAt, linesFor, textIn}
+use Rattle.outputs.specs.Text.{refusedLine, rasterLine, pictureHead, pictureLine, lineBy, lineAt, linesFor}
 
 -- the lines of a picture, by its tests
 module _ (g : Registers) (video cursor : List ℕ) (s : Setting) (k : ℕ) where
@@ -69,13 +69,3 @@ put-back o p vs n put =
     let e : n - 0 ≡ length vs = omega (arith, put .after) in
     let f : 0 + length vs ≤ length o = omega (arith, put .after, put .inside) in
     rw (e, put .stored, sets-eq vs o 0 f) (take-append-seam vs _)
-
--- a text that fits, and one that does not
-module _ (room : ℕ) (text : List ℕ) where
-  pub text-short : room < length text → textIn room text ≡ []
-  unfolding textIn
-  text-short h = rw (lt-ltb room (length text) h)
-
-  pub text-fits : length text ≤ room → textIn room text ≡ text
-  unfolding textIn
-  text-fits h = rw (le-ltb room (length text) h)

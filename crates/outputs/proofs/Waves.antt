@@ -9,7 +9,8 @@ use lib.ListN.{length, take, drop, length-drop, drop-of-length-le, take-append-d
 use lib.Seq.{sets-eq, take-at, take-all, length-take-le, drop-drop}
 use lib.IntN.{ℤ}
 use borrow.Author.Tests.{eq-eqb, ne-eqb}
-use Rattle.buffers.specs.Put.{Put}
+use Rattle.buffers.specs.Put.{Put, textIn}
+use Rattle.buffers.proofs.Puts.{text-fits}
 use Rattle.buffers.proofs.Split.{lt-or-le}
 use Rattle.refusals.specs.Table.{Why, Told, given, refused}
 use Rattle.refusals.specs.Refusals.{answerSays, whyOf}
@@ -23,8 +24,8 @@ use Rattle.sound.specs.Play.{playLeaves, playedOf}
 use Rattle.sound.specs.Values.{counterAfter}
 use Rattle.sound.proofs.Parts.{length-played, played-none, played-append, playing}
 use Rattle.waves.specs.Head.{waveHead}
-use Rattle.waves.specs.Samples.{samplesOf, samplesIn}
-use Rattle.waves.proofs.Stored.{some-room, samples-append, samples-none}
+use Rattle.waves.specs.Samples.{samplesOf}
+use Rattle.waves.proofs.Stored.{length-samples, samples-append, samples-none}
 use Rattle.sheets.specs.Sheet.{part, registersOf, soundList}
 use Rattle.sheets.specs.Input.{inputTold}
 use Rattle.sheets.proofs.Sheets.{few-sounds}
@@ -63,10 +64,10 @@ module _ (g : Registers) (words : List ℕ) (c : ℕ) (old new : List ℤ) (e : 
       (take-at (playedOf g c words) _ (8 * length words) n)
 
   pub samples-put : {o p : List ℕ} {r : ℕ} (size : ℕ) → 16 * length words ≤ size
-      → Put o p 0 (samplesIn size (take (8 * length words - 0) new)) r → Put o p 0 (samplesOf (playedOf g c words)) r
+      → Put o p 0 (textIn size (samplesOf (take (8 * length words - 0) new))) r → Put o p 0 (samplesOf (playedOf g c words)) r
   samples-put size h put =
-      let n = length-played g c words in
-      rw (← some-room size (playedOf g c words) (omega (arith, n)), ← values-taken, ← sub-zero (8 * length words)) put
+      let fits : length (samplesOf (playedOf g c words)) ≤ size = omega (arith, length-samples (playedOf g c words), length-played g c words) in
+      rw (← text-fits size (samplesOf (playedOf g c words)) fits, ← values-taken, ← sub-zero (8 * length words)) put
 
 -- past the last word there are no samples
 no-samples : (g : Registers) (words : List ℕ) (k : ℕ) → length words ≤ 256 * k → soundBlock g words k ≡ []

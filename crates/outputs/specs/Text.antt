@@ -77,7 +77,3 @@ pictureText g video cursor = textBy g video cursor (pictureTold g video cursor)
 -- The text of a plate file: of its own record and lists, by the printer's order.
 unfoldable pub textOf : List ℕ → List ℕ
 textOf file = textBy (registersOf file) (videoList file) (cursorList file) (sheetTold file)
-
--- A text in memory of some room: none where not all of it fits.
-unfoldable pub textIn : ℕ → List ℕ → List ℕ
-textIn room text = pick (ltb room (length text)) [] text

@@ -14,10 +14,10 @@ ghost use mathlib.Core.Path.{_≡_};
 ghost use Prim.Native.Nat.{_<_, _≤_};
 ghost use lib.ListN.{length};
 ghost use Rattle.refusals.specs.Table.{given};
-ghost use Rattle.buffers.specs.Put.{Put};
+ghost use Rattle.buffers.specs.Put.{Put, textIn};
 ghost use Rattle.refusals.specs.Refusals.{whyOf};
 ghost use Rattle.cells.specs.Picture.{pictureTold};
-ghost use Rattle.outputs.specs.Text.{refusedLine, pictureHead, rasterLine, pictureLine, lineAt, textIn};
+ghost use Rattle.outputs.specs.Text.{refusedLine, pictureHead, rasterLine, pictureLine, lineAt};
 
 // The threshold of the head's mark count.
 const THRESHOLD: u8 = 128;

@@ -6,8 +6,8 @@ ghost use mathlib.Core.Path.{_≡_};
 ghost use Prim.Native.Nat.{_≤_};
 ghost use lib.ListN.{length};
 ghost use lib.Seq.{sets};
-ghost use Rattle.buffers.specs.Put.{Put};
-ghost use Rattle.outputs.specs.Text.{pictureText, textIn};
+ghost use Rattle.buffers.specs.Put.{Put, textIn};
+ghost use Rattle.outputs.specs.Text.{pictureText};
 
 // The head, and a line for each of 1,024 rasters at most.
 const MOST_LINES: usize = 1025;

@@ -1,15 +1,13 @@
 -- Laws of the bytes of cells: how many, and one cell more.
-use Prim.Native.Nat.{ℕ, suc, _+_, _*_, _/_, _<_, _≤_}
+use Prim.Native.Nat.{ℕ, suc, _+_, _*_, _<_}
 use mathlib.Core.Path.{_≡_, refl}
 use mathlib.Core.List.{List, [], _∷_}
 use native.Mathlib.Numerals.{add-one}
 use native.Mathlib.Omega.{arith}
 use lib.ListN.{length, getD, drop, set}
 use lib.Seq.{sets, drop-cons, drop-length}
-use borrow.Author.Tests.{lt-ltb, le-ltb}
-use Rattle.buffers.specs.Put.{Put}
 use Rattle.colours.specs.Cells.{cellColour}
-use Rattle.pictures.specs.Colours.{red, green, blue, gunsOf, gunsIn}
+use Rattle.pictures.specs.Colours.{red, green, blue, gunsOf}
 
 pub length-guns : (cells : List ℕ) → length (gunsOf cells) ≡ 3 * length cells
 unfolding gunsOf
@@ -31,16 +29,3 @@ guns-turn l cells k r g b h er eg eb =
 pub guns-done : (l cells : List ℕ) (i k : ℕ) → k ≡ length cells → sets l i (gunsOf (drop k cells)) ≡ l
 unfolding gunsOf
 guns-done l cells i k e = rw (e, drop-length)
-
--- room for all, or none
-pub no-room : (room : ℕ) (cells : List ℕ) → room / 3 < length cells → gunsIn room cells ≡ []
-unfolding gunsIn
-no-room room cells h = rw (lt-ltb room (3 * length cells) (omega arith))
-
-pub some-room : (room : ℕ) (cells : List ℕ) → 3 * length cells ≤ room → gunsIn room cells ≡ gunsOf cells
-unfolding gunsIn
-some-room room cells h = rw (le-ltb room (3 * length cells) h)
-
-pub put-guns : (o n cells : List ℕ) → 3 * length cells ≤ length o → n ≡ sets o 0 (gunsOf cells)
-    → Put o n 0 (gunsIn (length o) cells) (3 * length cells)
-put-guns o n cells h e = rw (some-room (length o) cells h) (record { stored = e; after = omega (arith, length-guns cells); inside = h })

@@ -1,9 +1,6 @@
 -- The bytes of a picture: red, green and blue of each cell.
 use Prim.Native.Nat.{ℕ, _*_}
 use mathlib.Core.List.{List, [], _∷_}
-use lib.ListN.{length}
-use lib.Dec.{ltb}
-use Rattle.buffers.specs.Pick.{pick}
 use Rattle.colours.specs.Guns.{redGun, greenGun, blueGun}
 use Rattle.colours.specs.Cells.{cellColour}
 
@@ -21,7 +18,3 @@ blue colour = 17 * blueGun colour
 unfoldable pub gunsOf : List ℕ → List ℕ
 gunsOf [] = []
 gunsOf (x ∷ xs) = red (cellColour x) ∷ green (cellColour x) ∷ blue (cellColour x) ∷ gunsOf xs
-
--- None where there is no room for all.
-unfoldable pub gunsIn : ℕ → List ℕ → List ℕ
-gunsIn room cells = pick (ltb room (3 * length cells)) [] (gunsOf cells)

@@ -3,8 +3,8 @@ ghost use mathlib.Core.Path.{_≡_};
 ghost use Prim.Native.Nat.{_+_, _*_, _≤_};
 ghost use lib.ListN.{length};
 ghost use lib.Seq.{sets};
-ghost use Rattle.buffers.specs.Put.{Put};
-ghost use Rattle.pictures.specs.Colours.{red, green, blue, gunsOf, gunsIn};
+ghost use Rattle.buffers.specs.Put.{Put, textIn};
+ghost use Rattle.pictures.specs.Colours.{red, green, blue, gunsOf};
 
 fn red_of(colour: u16) -> u8
     ensures { λ r. ⌜ r ≡ red colour ⌝ }
@@ -41,7 +41,7 @@ fn put_cells(out: &mut [u8], cells: &[u16])
 
 // The bytes of some cells in lent memory, and how many; none where they do not all fit.
 pub fn guns(cells: &[u16], out: &mut [u8]) -> usize
-    ensures { λ r. ⌜ Put (now (out .entry)) (now (out .exit)) 0 (gunsIn (length (now (out .entry))) (now (cells .entry))) r ⌝ }
+    ensures { λ r. ⌜ Put (now (out .entry)) (now (out .exit)) 0 (textIn (length (now (out .entry))) (gunsOf (now (cells .entry)))) r ⌝ }
 {
     if out.len() / 3 < cells.len() {
         return 0;

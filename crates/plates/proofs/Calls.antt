@@ -57,12 +57,6 @@ copy-rows file places =
     sym (and-then-judged (sectionsOf file) (readTable file) (λ sections. row 13 (ltb places (sections .r)) 0 ∷ []) (λ sections. tt))
 
 module _ (file : List ℕ) (sections : Sections) (e : given sections ≡ readTold file) where
-  pub copy-fits : 4 * sections .r ≤ length file
-  copy-fits =
-      let g = right-given file sections e in
-      let o = right-ordered file (g .is-right) in
-      omega (arith, ap (λ (s : Sections). s .r) (g .are), o .whole)
-
   pub copy-short :
       (out after : List ℕ) → length out < sections .r
       → (refused (why 13 0) ≡ copyTold file (length out)) × (out ≡ unlessRefused (copyTold file (length out)) out after)

@@ -1,5 +1,4 @@
 pub mod Told
-pub mod Turns
 pub mod Rule
 pub mod Calls
 pub mod Plates

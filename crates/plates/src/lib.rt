@@ -1,10 +1,10 @@
 // Plate files: read, copied out, written. The contents of the sections are not judged here.
 mod words;
 
+use buffers::copy_words;
+use buffers::put_words;
 use refusals::Answer;
 use refusals::Refusal;
-use words::copy_words;
-use words::put_words;
 use words::word_at;
 ghost use mathlib.Core.Path.{_≡_};
 ghost use Prim.Native.Nat.{_≤_};

@@ -1,7 +1,8 @@
 // Needed registers, group by group: the lowest that is unwritten.
 use crate::record::Registers;
+use buffers::least;
 ghost use mathlib.Core.Path.{_≡_};
-ghost use Prim.Native.Nat.{_<_, _≤_, min};
+ghost use Prim.Native.Nat.{_<_, _≤_};
 ghost use Rattle.buffers.specs.Pick.{pick};
 ghost use Rattle.registers.specs.Lowest.{lowest};
 ghost use Rattle.registers.specs.Needed.{missing};
@@ -20,16 +21,6 @@ pub fn lowest_unwritten(written: &[bool; 64], first: usize, last: usize) -> usiz
         slot += 1;
     }
     Registers::SLOTS
-}
-
-// The lower of two slots.
-pub fn least(a: usize, b: usize) -> usize
-    ensures { λ r. ⌜ r ≡ min a b ⌝ }
-{
-    if a < b {
-        return a;
-    }
-    b
 }
 
 // One slot, where it is at fault, or 64.

@@ -1,8 +1,8 @@
 // Stereo values and the sound frequency; of what sound needs, the lowest slot that is unwritten, and the lowest that is wrong.
-use crate::needed::least;
 use crate::needed::lowest_unwritten;
 use crate::needed::slot_if;
 use crate::record::Registers;
+use buffers::least;
 ghost use mathlib.Core.Path.{_≡_};
 ghost use Rattle.registers.specs.Lowest.{lowest};
 ghost use Rattle.registers.specs.Stereo.{stereoOf, frequencyOf, soundMissing, soundWrong};

@@ -7,7 +7,7 @@ use native.Mathlib.Omega.{arith}
 use borrow.Author.Tests.{lt-ltb, le-ltb}
 use lib.ListN.{length}
 use lib.Seq.{sets}
-use Rattle.buffers.specs.Put.{Put}
+use Rattle.buffers.specs.Put.{Put, textIn}
 use Rattle.buffers.proofs.Split.{lt-or-le}
 use Rattle.refusals.specs.Table.{why, given, refused}
 use Rattle.refusals.specs.Refusals.{answerSays, whyOf}
@@ -18,10 +18,10 @@ use Rattle.sheets.specs.Input.{inputTold, inputParts, inputLeaves}
 use Rattle.sheets.specs.declared.Taken.{Taken}
 use Rattle.sheets.proofs.Sheets.{input-given, input-refused, input-held}
 use Rattle.outputs.specs.Sheet.{sheetTold}
-use Rattle.outputs.specs.Text.{refusedLine, pictureText, textOf, textIn}
+use Rattle.outputs.specs.Text.{refusedLine, pictureText, textOf}
 use Rattle.outputs.proofs.Lines.{some-text}
 use Rattle.outputs.proofs.Sheets.{text-untaken, text-taken}
-use Rattle.outputs.proofs.Texts.{text-short, text-fits}
+use Rattle.buffers.proofs.Puts.{text-short, text-fits}
 use Rattle.vombelishi.specs.Texts.{textCall}
 
 -- What was taken apart has the file's text.

@@ -6,9 +6,9 @@ use sheets::input::take_input;
 ghost use mathlib.Core.Path.{_≡_};
 ghost use Prim.Native.Nat.{_≤_};
 ghost use lib.ListN.{length};
-ghost use Rattle.buffers.specs.Put.{Put};
+ghost use Rattle.buffers.specs.Put.{Put, textIn};
 ghost use Rattle.sheets.specs.Sheet.{part};
-ghost use Rattle.outputs.specs.Text.{pictureText, textOf, textIn};
+ghost use Rattle.outputs.specs.Text.{pictureText, textOf};
 ghost use Rattle.vombelishi.specs.Code.{answerCode, cellBy};
 ghost use Rattle.vombelishi.specs.Texts.{textCall, textLeaves};
 

@@ -1,5 +1,5 @@
 -- Laws of the samples' bytes: how many, and one value more.
-use Prim.Native.Nat.{ℕ, suc, _+_, _*_, _/_, _%_, _<_, _≤_}
+use Prim.Native.Nat.{ℕ, suc, _+_, _*_, _/_, _%_, _<_}
 use mathlib.Core.Path.{_≡_, refl}
 use mathlib.Core.List.{List, [], _∷_, _++_}
 use native.Mathlib.Numerals.{add-one}
@@ -7,9 +7,7 @@ use native.Mathlib.Omega.{arith}
 use lib.ListN.{length, getD, drop, set}
 use lib.Seq.{sets, drop-cons, drop-length}
 use lib.IntN.{ℤ, pos}
-use borrow.Author.Tests.{lt-ltb, le-ltb}
-use Rattle.buffers.specs.Put.{Put}
-use Rattle.waves.specs.Samples.{sampleOf, samplesOf, samplesIn}
+use Rattle.waves.specs.Samples.{sampleOf, samplesOf}
 
 pub length-samples : (values : List ℤ) → length (samplesOf values) ≡ 2 * length values
 unfolding samplesOf
@@ -34,20 +32,6 @@ samples-turn l values k s h e =
 pub samples-done : (l : List ℕ) (values : List ℤ) (i k : ℕ) → k ≡ length values → sets l i (samplesOf (drop k values)) ≡ l
 unfolding samplesOf
 samples-done l values i k e = rw (e, drop-length)
-
--- room for all, or none
-pub no-room : (room : ℕ) (values : List ℤ) → room / 2 < length values → samplesIn room values ≡ []
-unfolding samplesIn
-no-room room values h = rw (lt-ltb room (2 * length values) (omega arith))
-
-pub some-room : (room : ℕ) (values : List ℤ) → 2 * length values ≤ room → samplesIn room values ≡ samplesOf values
-unfolding samplesIn
-some-room room values h = rw (le-ltb room (2 * length values) h)
-
-pub put-samples : (o n : List ℕ) (values : List ℤ) → 2 * length values ≤ length o → n ≡ sets o 0 (samplesOf values)
-    → Put o n 0 (samplesIn (length o) values) (2 * length values)
-put-samples o n values h e =
-    rw (some-room (length o) values h) (record { stored = e; after = omega (arith, length-samples values); inside = h })
 
 pub samples-none : samplesOf [] ≡ []
 unfolding samplesOf

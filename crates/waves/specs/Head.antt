@@ -1,8 +1,6 @@
 -- The head of a WAV file of 16-bit stereo samples.
 use Prim.Native.Nat.{ℕ, _+_, _*_, _/_, _%_, _^_}
 use mathlib.Core.List.{List, [], _∷_}
-use lib.Dec.{ltb}
-use Rattle.buffers.specs.Pick.{pick}
 use Rattle.buffers.specs.Words.{word, bytesOf}
 
 -- Frames a second, to the nearest: a sound frequency of n is a period of n + 1 microseconds.
@@ -28,7 +26,3 @@ headWords rate words =
 
 unfoldable pub waveHead : ℕ → ℕ → List ℕ
 waveHead frequency words = bytesOf (headWords (rateOf frequency) words)
-
--- None where there is no room for all of it.
-unfoldable pub headIn : ℕ → ℕ → ℕ → List ℕ
-headIn room frequency words = pick (ltb room 44) [] (waveHead frequency words)

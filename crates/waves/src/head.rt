@@ -1,11 +1,9 @@
 // The head of a WAV file.
+use buffers::put_words;
 ghost use mathlib.Core.Path.{_≡_};
-ghost use Prim.Native.Nat.{_*_, _≤_};
 ghost use lib.ListN.{length};
-ghost use lib.Seq.{sets};
-ghost use Rattle.buffers.specs.Put.{Put};
-ghost use Rattle.buffers.specs.Words.{bytesOf};
-ghost use Rattle.waves.specs.Head.{rateOf, headWords, headIn};
+ghost use Rattle.buffers.specs.Put.{Put, textIn};
+ghost use Rattle.waves.specs.Head.{rateOf, headWords, waveHead};
 
 // Frames a second: a sound frequency of n is a period of n + 1 microseconds.
 fn rate_of(frequency: u8) -> u32
@@ -36,27 +34,14 @@ fn head_words(frequency: u8, words: usize) -> [u32; 11]
     ]
 }
 
-// The bytes of some words, lowest first, from the first place on.
-fn put_words(out: &mut [u8], words: &[u32])
-    requires { ⌜ 4 * length (now words) ≤ length (now out) ⌝ }
-    ensures { λ _. ⌜ now (out .exit) ≡ sets (now (out .entry)) 0 (bytesOf (now (words .entry))) ⌝ }
-{
-    let end = 4 * words.len();
-    let mut k = 0;
-    while k < end {
-        out[k] = ((words[k / 4] >> (8 * (k % 4))) % 256) as u8;
-        k += 1;
-    }
-}
-
 // The head of a file of some sound words in lent memory, and its length; none where it does not fit.
 pub fn head(frequency: u8, words: usize, out: &mut [u8]) -> usize
-    ensures { λ r. ⌜ Put (now (out .entry)) (now (out .exit)) 0 (headIn (length (now (out .entry))) frequency words) r ⌝ }
+    ensures { λ r. ⌜ Put (now (out .entry)) (now (out .exit)) 0 (textIn (length (now (out .entry))) (waveHead frequency words)) r ⌝ }
 {
     if out.len() < 44 {
         return 0;
     }
     let parts = head_words(frequency, words);
-    put_words(out, &parts);
+    put_words(out, 0, &parts);
     44
 }

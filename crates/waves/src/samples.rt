@@ -3,8 +3,8 @@ ghost use mathlib.Core.Path.{_≡_};
 ghost use Prim.Native.Nat.{_*_, _≤_};
 ghost use lib.ListN.{length};
 ghost use lib.Seq.{sets};
-ghost use Rattle.buffers.specs.Put.{Put};
-ghost use Rattle.waves.specs.Samples.{sampleOf, samplesOf, samplesIn};
+ghost use Rattle.buffers.specs.Put.{Put, textIn};
+ghost use Rattle.waves.specs.Samples.{sampleOf, samplesOf};
 
 // A sample's 16 bits: a negative value's two's complement.
 fn sample_of(value: i16) -> u16
@@ -32,7 +32,7 @@ fn put_samples(out: &mut [u8], values: &[i16])
 
 // The bytes of some values in lent memory, and how many; none where they do not all fit.
 pub fn samples(values: &[i16], out: &mut [u8]) -> usize
-    ensures { λ r. ⌜ Put (now (out .entry)) (now (out .exit)) 0 (samplesIn (length (now (out .entry))) (now (values .entry))) r ⌝ }
+    ensures { λ r. ⌜ Put (now (out .entry)) (now (out .exit)) 0 (textIn (length (now (out .entry))) (samplesOf (now (values .entry)))) r ⌝ }
 {
     if out.len() / 2 < values.len() {
         return 0;

@@ -1,5 +1,5 @@
 -- Copying out refuses as reading does, then for memory that is too short; else all words are stored.
-use Rattle.plates.proofs.Calls.{copy-fits, copy-short, copy-done, copy-refused}
+use Rattle.plates.proofs.Calls.{copy-short, copy-done, copy-refused}
 use Rattle.plates.specs.Read.{readSays}
 use mathlib.Core.Path.{ap, sym, _∙_}
 use borrow.Author.Needs.{needs}
@@ -27,11 +27,7 @@ returns c =
     (c .if1 .taken)
 
 copy-words-requires : tie.Need-copy-words-requires
-copy-words-requires c κs =
-    let at-sections = c .before .before .before .before in
-    let at-read = at-sections .before .before in
-    let args = at-read .before .before .before .args in
-    (copy-fits (args .file .now) _ (ap readSays (sym (at-sections .sections .given .1)) ∙ at-read .read .ensures), search needs)
+copy-words-requires c κs = search needs
 
 returns-2 : tie.Need-returns-2
 returns-2 c =

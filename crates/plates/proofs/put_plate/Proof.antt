@@ -76,10 +76,12 @@ returns c =
     let at-put-words3 = at-put-words4 .before .before .before .before in
     let at-put-words2 = at-put-words3 .before .before .before .before in
     let at-put-words = at-put-words2 .before .before .before .before in
-    let a = at-put-words .before .before .before .before .before .before .before .args in
+    let start = at-put-words .before .before .before .before .before .before .before in
+    let a = start .args in
     plate-put (a .registers .now) (a .video .now) (a .cursor .now) (a .sound .now) (a .out .now) _ _ _ _ _ _ _ _ _ _
     (at-put-words .put-words .ensures) (at-put-words2 .put-words2 .ensures) (at-put-words3 .put-words3 .ensures)
     (at-put-words4 .put-words4 .ensures) (at-put-words5 .put-words5 .ensures) (omega arith) (omega arith) (omega arith) (omega arith) refl
+    (start .pre .1)
 
 pub put-plate-spec : {M : Type 1} → statement M
 put-plate-spec =

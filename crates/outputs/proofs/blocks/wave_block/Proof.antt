@@ -1,6 +1,10 @@
 -- Block 0 is the head, for which there is room, and any other a block of samples.
 use lib.ListN.{length}
-use Rattle.waves.proofs.Heads.{some-head}
+use native.Mathlib.Omega.{arith}
+use Rattle.buffers.proofs.Puts.{text-fits}
+use Rattle.registers.specs.Stereo.{frequencyOf}
+use Rattle.waves.specs.Head.{waveHead}
+use Rattle.waves.proofs.Heads.{length-head}
 use Rattle.outputs.proofs.Waves.{file-head, file-block}
 use borrow.Author.Needs.{needs}
 use Rattle.outputs.proofs.blocks.wave_block.Statement.{statement}
@@ -21,10 +25,11 @@ returns c =
     let sound-frequency = c .before .before .before .before .sound-frequency in
     let head = c .before .before .head in
     let s = c .before .before .before .before .before .before .before .before in
+    let words = length (s .args .words .now) in
     rw (
       file-head (s .args .g) (s .args .words .now) (s .args .k) (if1 .taken),
-      ← some-head (length (s .args .out .now)) _ _
-          (search needs),
+      ← text-fits (length (s .args .out .now)) (waveHead (frequencyOf (s .args .g)) words)
+          (omega (arith, length-head (frequencyOf (s .args .g)) words)),
       ← sound-frequency .ensures,
     )
     (head .ensures)

@@ -3,10 +3,10 @@ use mathlib.Core.Path.{ap}
 use native.Mathlib.Omega.{arith}
 use lib.ListN.{length}
 use lib.Seq.{length-sets}
-use Rattle.buffers.proofs.Puts.{put-nothing}
+use Rattle.buffers.proofs.Puts.{put-nothing, text-short, text-fits}
 use Rattle.refusals.specs.Refusals.{whyOf}
 use Rattle.outputs.specs.Text.{refusedLine}
-use Rattle.outputs.proofs.Texts.{put-back, text-short, text-fits}
+use Rattle.outputs.proofs.Texts.{put-back}
 use borrow.Author.Needs.{needs}
 use Rattle.outputs.proofs.text.refused.Statement.{statement}
 use Rattle.outputs.proofs.text.refused.Tie as tie

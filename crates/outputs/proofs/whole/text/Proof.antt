@@ -1,9 +1,8 @@
 -- The text is measured first, so that it is stored whole or not at all.
 use native.Mathlib.Omega.{arith}
 use lib.ListN.{length}
-use Rattle.buffers.proofs.Puts.{put-nothing}
+use Rattle.buffers.proofs.Puts.{put-nothing, text-short, text-fits}
 use Rattle.outputs.specs.Text.{pictureText}
-use Rattle.outputs.proofs.Texts.{text-short, text-fits}
 use borrow.Author.Needs.{needs}
 use Rattle.outputs.proofs.whole.text.Statement.{statement}
 use Rattle.outputs.proofs.whole.text.Tie as tie

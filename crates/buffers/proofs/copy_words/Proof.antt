@@ -1,21 +1,28 @@
--- Each turn stores the word at its place, so that the words left to store are those after it.
-use mathlib.Core.Path.{_≡_, sym, _∙_}
-use Prim.Native.Nat.{_≤_, _*_, _-_}
+-- The first words, one a turn, as far as there are bytes and room: what is stored and what the rest will store make the whole.
+use mathlib.Core.Path.{_≡_, refl, sym, _∙_}
+use Prim.Native.Nat.{_≤_, _*_, _-_, _/_, min}
+use native.Mathlib.Omega.{arith}
+use borrow.Author.Needs.{needs}
 use lib.ListN.{length, take, drop, length-set}
 use lib.Seq.{sets}
 use Rattle.buffers.specs.Words.{wordsOf}
-use Rattle.plates.proofs.Turns.{copy-turn, copy-done}
-use borrow.Author.Needs.{needs}
-use Rattle.sheets.proofs.words.copy_words.Statement.{statement}
-use Rattle.sheets.proofs.words.copy_words.Tie as tie
+use Rattle.buffers.proofs.Turns.{copy-turn, copy-done}
+use Rattle.buffers.proofs.copy_words.Statement.{statement}
+use Rattle.buffers.proofs.copy_words.Tie as tie
 
 abbrev Inv-loop : tie.InvT-loop
-Inv-loop bytes count out₀ k₀ out k =
-    (k ≤ count) × (length out ≡ length out₀)
+Inv-loop bytes count out₀ end k₀ out k =
+    (k ≤ end) × (end ≡ min (min count (length bytes / 4)) (length out₀)) × (length out ≡ length out₀)
     × (sets out₀ 0 (wordsOf (take (4 * count) bytes)) ≡ sets out k (drop k (wordsOf (take (4 * count) bytes))))
 
 abbrev μ-loop : tie.MeasureT-loop
-μ-loop bytes count out₀ k₀ out k = count - k
+μ-loop bytes count out₀ end k₀ out k = end - k
+
+least-requires : tie.Need-least-requires Inv-loop μ-loop
+least-requires c κs = search needs
+
+least-requires-2 : tie.Need-least-requires-2 Inv-loop μ-loop
+least-requires-2 c κs = search needs
 
 loop-holds : tie.Need-loop-holds Inv-loop μ-loop
 loop-holds c = search needs
@@ -61,11 +68,12 @@ loop-less c = search needs
 
 loop-again : tie.Need-loop-again Inv-loop μ-loop
 loop-again c =
-    let s = c .before .before .before .before .before .before .before .before .before in
+    let s = c .before .before .before .before .before .before .before .before .before .before .before in
     let l = c .before .before .before .before .before .before .loop in (
       search needs,
-      simp length-set (l .inv .1),
-      l .inv .2 ∙ copy-turn (s .args .bytes .now) (s .args .count) (s .pre .0) (l .out) (l .k) (c .joined .result) (search needs) (c .joined .ensures),
+      l .inv .1,
+      simp length-set (l .inv .2),
+      l .inv .3 ∙ copy-turn (s .args .bytes .now) (s .args .count) (l .out) (l .k) (c .joined .result) (omega arith) (c .joined .ensures),
     )
 
 same-length : tie.Need-same-length Inv-loop μ-loop
@@ -73,9 +81,9 @@ same-length c = search needs
 
 returns : tie.Need-returns Inv-loop μ-loop
 returns c =
-    let s = c .before .before .before .before in
+    let s = c .before .before .before .before .before .before in
     let l = c .before .loop in
-    sym (l .inv .2 ∙ copy-done (s .args .bytes .now) (s .args .count) (s .pre .0) (l .out) (l .k) (search needs))
+    sym (l .inv .3 ∙ copy-done (s .args .bytes .now) (s .args .count) (l .out) (l .k) (omega arith))
 
 pub copy-words-spec : {M : Type 1} → statement M
 copy-words-spec =
@@ -83,6 +91,8 @@ copy-words-spec =
     (tie.spec
     Inv-loop
     μ-loop
+    least-requires
+    least-requires-2
     loop-holds
     mul-at
     shared-slice-read-joined

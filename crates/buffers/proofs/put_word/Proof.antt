@@ -1,12 +1,12 @@
 -- A word's four bytes, lowest first.
 use Prim.Native.Nat.{_/_, _%_}
 use Rattle.buffers.specs.Words.{bytesOf}
 use Rattle.buffers.proofs.Sets.{sets-four}
 use lib.ListN.{length-set}
 use native.Mathlib.Omega.{arith}
 use borrow.Author.Needs.{needs}
-use Rattle.plates.proofs.words.put_word.Statement.{statement}
-use Rattle.plates.proofs.words.put_word.Tie as tie
+use Rattle.buffers.proofs.put_word.Statement.{statement}
+use Rattle.buffers.proofs.put_word.Tie as tie
 
 cast-out : tie.Need-cast-out
 cast-out c = search needs
