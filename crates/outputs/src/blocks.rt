@@ -16,7 +16,7 @@ ghost use Rattle.outputs.specs.Wave.{soundBlock, waveBlock, blockAt, sou
 const BLOCK: usize = 256;
 
 // The samples of at most a block of words.
-fn put_words(out: &mut [u8], g: Registers, words: &[u32], counter: u32) -> usize
+fn put_played(out: &mut [u8], g: Registers, words: &[u32], counter: u32) -> usize
     requires { ⌜ (4096 ≤ length (now out)) × (length (now words) ≤ 256) × (soundTold g ≡ given tt) ⌝ }
     ensures { λ r. ⌜ Put (now (out .entry)) (now (out .exit)) 0 (samplesOf (playedOf g counter (now (words .entry)))) r ⌝ }
 {
@@ -38,9 +38,9 @@ fn sound_block(out: &mut [u8], g: Registers, words: &[u32], k: usize) -> usize
     let start = BLOCK * k;
     let counter = (4 * start % 0x1_0000_0000) as u32;
     if n - start < BLOCK {
-        return put_words(out, g, &words[start..n], counter);
+        return put_played(out, g, &words[start..n], counter);
     }
-    put_words(out, g, &words[start..start + BLOCK], counter)
+    put_played(out, g, &words[start..start + BLOCK], counter)
 }
 
 // Block k of the file of a record that sound accepts.

@@ -12,7 +12,7 @@ use sixths::left_of;
 use sixths::lefts;
 use sixths::right_of;
 use sixths::rights;
-use values::put_words;
+use values::play_words;
 ghost use mathlib.Core.Path.{_≡_};
 ghost use lib.ListN.{length};
 ghost use Rattle.refusals.specs.Refusals.{answerSays};
@@ -74,7 +74,7 @@ pub fn play(registers: Registers, words: &[u32], counter: u32, out: &mut [i16]) 
             let left = lefts(registers);
             let right = rights(registers);
             let table = amplitudes();
-            let after = put_words(out, words, counter, &left, &right, &table);
+            let after = play_words(out, words, counter, &left, &right, &table);
             Played {
                 counter: after,
                 answer: Answer::Done,

@@ -18,7 +18,7 @@ fn advanced(counter: u32, bytes: u32) -> u32
 }
 
 // One byte's two values, at the channel that the counter says.
-fn put_byte(
+fn play_byte(
     out: &mut [i16],
     at: usize,
     byte: u8,
@@ -39,7 +39,7 @@ fn put_byte(
 }
 
 // One word's eight values.
-fn put_word(
+fn play_word(
     out: &mut [i16],
     at: usize,
     word: u32,
@@ -61,14 +61,14 @@ fn put_word(
     let second = advanced(counter, 1);
     let third = advanced(second, 1);
     let fourth = advanced(third, 1);
-    put_byte(out, at, a, counter, lefts, rights, table);
-    put_byte(out, at + 2, b, second, lefts, rights, table);
-    put_byte(out, at + 4, c, third, lefts, rights, table);
-    put_byte(out, at + 6, d, fourth, lefts, rights, table);
+    play_byte(out, at, a, counter, lefts, rights, table);
+    play_byte(out, at + 2, b, second, lefts, rights, table);
+    play_byte(out, at + 4, c, third, lefts, rights, table);
+    play_byte(out, at + 6, d, fourth, lefts, rights, table);
 }
 
 // The values of all words, from the first place on, and the counter after the last byte.
-pub fn put_words(
+pub fn play_words(
     out: &mut [i16],
     words: &[u32],
     counter: u32,
@@ -86,7 +86,7 @@ pub fn put_words(
     let mut c = counter;
     let mut k = 0;
     while k < words.len() {
-        put_word(out, 8 * k, words[k], c, lefts, rights, table);
+        play_word(out, 8 * k, words[k], c, lefts, rights, table);
         c = advanced(c, 4);
         k += 1;
     }

@@ -2,7 +2,7 @@
 use crate::code::SHORT;
 use crate::code::answered;
 use crate::code::refused;
-use crate::put::put_numbers;
+use crate::put::store_numbers;
 use plates::Reading;
 use plates::Sections;
 use plates::Writing;
@@ -30,7 +30,7 @@ fn put_sections(p: Sections, out: &mut [u64])
         p.c as u64,
         p.s as u64,
     ];
-    put_numbers(out, &numbers);
+    store_numbers(out, &numbers);
 }
 
 // The five starts in bytes and R, V, C, S; 14, then 13 for `places`.

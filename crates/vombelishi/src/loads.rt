@@ -33,7 +33,7 @@ fn judge_word(values: &[u32], written: &[u8], word: u32) -> Answer
     loaded.answer
 }
 
-fn put_word(values: &mut [u32], written: &mut [u8], word: u32)
+fn store_word(values: &mut [u32], written: &mut [u8], word: u32)
     requires { ⌜ (64 ≤ length (now values)) × (64 ≤ length (now written)) ⌝ }
     ensures { λ _. ⌜
         (now (values .exit) ≡ valueStored (now (values .entry)) word)
@@ -45,7 +45,7 @@ fn put_word(values: &mut [u32], written: &mut [u8], word: u32)
     written[slot] = 1;
 }
 
-fn put_list(values: &mut [u32], written: &mut [u8], words: &[u32])
+fn store_list(values: &mut [u32], written: &mut [u8], words: &[u32])
     requires { ⌜ (64 ≤ length (now values)) × (64 ≤ length (now written)) ⌝ }
     ensures { λ _. ⌜
         (now (values .exit) ≡ valuesStored (now (values .entry)) (now (words .entry)))
@@ -54,7 +54,7 @@ fn put_list(values: &mut [u32], written: &mut [u8], words: &[u32])
 {
     let mut i = 0;
     while i < words.len() {
-        put_word(values, written, words[i]);
+        store_word(values, written, words[i]);
         i += 1;
     }
 }
@@ -71,7 +71,7 @@ pub extern "C" fn vom_load(values: &mut [u32], written: &mut [u8], words: &[u32]
     match judge_list(values, written, words) {
         Answer::Refused(why) => refused(why),
         Answer::Done => {
-            put_list(values, written, words);
+            store_list(values, written, words);
             0
         }
     }
@@ -89,7 +89,7 @@ pub extern "C" fn vom_load_word(values: &mut [u32], written: &mut [u8], word: u3
     match judge_word(values, written, word) {
         Answer::Refused(why) => refused(why),
         Answer::Done => {
-            put_word(values, written, word);
+            store_word(values, written, word);
             0
         }
     }

@@ -4,7 +4,7 @@ ghost use Prim.Native.Nat.{_≤_};
 ghost use lib.ListN.{length};
 ghost use lib.Seq.{sets};
 
-pub fn put_words(out: &mut [u32], values: &[u32])
+pub fn store_words(out: &mut [u32], values: &[u32])
     requires { ⌜ length (now values) ≤ length (now out) ⌝ }
     ensures { λ _. ⌜ now (out .exit) ≡ sets (now (out .entry)) 0 (now (values .entry)) ⌝ }
 {
@@ -15,7 +15,7 @@ pub fn put_words(out: &mut [u32], values: &[u32])
     }
 }
 
-pub fn put_numbers(out: &mut [u64], values: &[u64])
+pub fn store_numbers(out: &mut [u64], values: &[u64])
     requires { ⌜ length (now values) ≤ length (now out) ⌝ }
     ensures { λ _. ⌜ now (out .exit) ≡ sets (now (out .entry)) 0 (now (values .entry)) ⌝ }
 {

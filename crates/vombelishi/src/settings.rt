@@ -2,7 +2,7 @@
 use crate::code::SHORT;
 use crate::code::answered;
 use crate::code::refused;
-use crate::put::put_words;
+use crate::put::store_words;
 use crate::record::lacks;
 use crate::record::record_of;
 use refusals::Answer;
@@ -62,7 +62,7 @@ fn put_setting(s: Setting, out: &mut [u32])
         s.video_words() as u32,
         s.cursor_words() as u32,
     ];
-    put_words(out, &numbers);
+    store_words(out, &numbers);
 }
 
 fn judge(values: &[u32], written: &[u8]) -> Checked

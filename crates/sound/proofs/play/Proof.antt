@@ -34,8 +34,8 @@ rights-requires c κs = search needs
 amplitudes-requires : tie.Need-amplitudes-requires
 amplitudes-requires c κs = search needs
 
-put-words-requires : tie.Need-put-words-requires
-put-words-requires c κs =
+play-words-requires : tie.Need-play-words-requires
+play-words-requires c κs =
     let at-amplitudes = c .before .before .before .before in
     let at-rights = at-amplitudes .before in
     let at-lefts = at-rights .before in
@@ -67,7 +67,7 @@ returns-3 c =
     let args = at-check-sound .before .before .args in
     play-done (args .registers) (args .words .now) (args .counter) (args .out .now) _ _ _ _
     (ap answerSays (sym (at-enum-told .enum-told .given .1)) ∙ at-check-sound .check-sound .ensures) (at-if1 .if1 .left)
-    (at-lefts .lefts .ensures) (at-rights .rights .ensures) (c .before .put-words .ensures .0) (c .before .put-words .ensures .1)
+    (at-lefts .lefts .ensures) (at-rights .rights .ensures) (c .before .play-words .ensures .0) (c .before .play-words .ensures .1)
 
 pub play-spec : {M : Type 1} → statement M
 play-spec =
@@ -80,7 +80,7 @@ play-spec =
     lefts-requires
     rights-requires
     amplitudes-requires
-    put-words-requires
+    play-words-requires
     returns-2
     same-length
     returns-3)

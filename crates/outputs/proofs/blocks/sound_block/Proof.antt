@@ -23,20 +23,20 @@ cast-counter c = search needs
 sub-if2 : tie.Need-sub-if2
 sub-if2 c = search needs
 
-mul-put-words : tie.Need-mul-put-words
-mul-put-words c = search needs
+mul-put-played : tie.Need-mul-put-played
+mul-put-played c = search needs
 
-sub-put-words : tie.Need-sub-put-words
-sub-put-words c = search needs
+sub-put-played : tie.Need-sub-put-played
+sub-put-played c = search needs
 
-part-put-words-start : tie.Need-part-put-words-start
-part-put-words-start c = search needs
+part-put-played-start : tie.Need-part-put-played-start
+part-put-played-start c = search needs
 
-part-put-words-end : tie.Need-part-put-words-end
-part-put-words-end c = search needs
+part-put-played-end : tie.Need-part-put-played-end
+part-put-played-end c = search needs
 
-put-words-requires : tie.Need-put-words-requires
-put-words-requires c κs = search needs
+put-played-requires : tie.Need-put-played-requires
+put-played-requires c κs = search needs
 
 same-length : tie.Need-same-length
 same-length c = search needs
@@ -46,27 +46,27 @@ returns-2 c =
     let s = c .before .before .before .before .before .before .before .before .before in
     let if1 = c .before .before .before .before .before .before .if1 in
     let if2 = c .before .before .before .before .before .if2 in
-    let put-words = c .before .before .put-words in
+    let put-played = c .before .before .put-played in
     let a = s .args in
-    rw (← block-last (a .g) (a .words .now) (a .k) (omega (arith, if1 .left)) (if2 .taken)) (put-words .ensures)
+    rw (← block-last (a .g) (a .words .now) (a .k) (omega (arith, if1 .left)) (if2 .taken)) (put-played .ensures)
 
-add-put-words : tie.Need-add-put-words
-add-put-words c = search needs
+add-put-played : tie.Need-add-put-played
+add-put-played c = search needs
 
-mul-put-words-2 : tie.Need-mul-put-words-2
-mul-put-words-2 c = search needs
+mul-put-played-2 : tie.Need-mul-put-played-2
+mul-put-played-2 c = search needs
 
-sub-put-words-2 : tie.Need-sub-put-words-2
-sub-put-words-2 c = search needs
+sub-put-played-2 : tie.Need-sub-put-played-2
+sub-put-played-2 c = search needs
 
-part-put-words-start-2 : tie.Need-part-put-words-start-2
-part-put-words-start-2 c = search needs
+part-put-played-start-2 : tie.Need-part-put-played-start-2
+part-put-played-start-2 c = search needs
 
-part-put-words-end-2 : tie.Need-part-put-words-end-2
-part-put-words-end-2 c = search needs
+part-put-played-end-2 : tie.Need-part-put-played-end-2
+part-put-played-end-2 c = search needs
 
-put-words-requires-2 : tie.Need-put-words-requires-2
-put-words-requires-2 c κs = search needs
+put-played-requires-2 : tie.Need-put-played-requires-2
+put-played-requires-2 c κs = search needs
 
 same-length-2 : tie.Need-same-length-2
 same-length-2 c = search needs
@@ -74,7 +74,7 @@ same-length-2 c = search needs
 returns-3 : tie.Need-returns-3
 returns-3 c =
     let a = c .before .before .before .before .before .before .before .before .before .args in
-    rw (← block-whole (a .g) (a .words .now) (a .k)) (c .before .before .put-words2 .ensures)
+    rw (← block-whole (a .g) (a .words .now) (a .k)) (c .before .before .put-played2 .ensures)
 
 pub sound-block-spec : {M : Type 1} → statement M
 sound-block-spec =
@@ -85,18 +85,18 @@ sound-block-spec =
     mul-counter
     cast-counter
     sub-if2
-    mul-put-words
-    sub-put-words
-    part-put-words-start
-    part-put-words-end
-    put-words-requires
+    mul-put-played
+    sub-put-played
+    part-put-played-start
+    part-put-played-end
+    put-played-requires
     same-length
     returns-2
-    add-put-words
-    mul-put-words-2
-    sub-put-words-2
-    part-put-words-start-2
-    part-put-words-end-2
-    put-words-requires-2
+    add-put-played
+    mul-put-played-2
+    sub-put-played-2
+    part-put-played-start-2
+    part-put-played-end-2
+    put-played-requires-2
     same-length-2
     returns-3)

@@ -16,18 +16,18 @@ cast-t11 c = search needs
 cast-t12 : tie.Need-cast-t12
 cast-t12 c = search needs
 
-slice-aggregate-put-numbers : tie.Need-slice-aggregate-put-numbers
-slice-aggregate-put-numbers c = search needs
+slice-aggregate-store-numbers : tie.Need-slice-aggregate-store-numbers
+slice-aggregate-store-numbers c = search needs
 
-put-numbers-requires : tie.Need-put-numbers-requires
-put-numbers-requires c κs = search needs
+store-numbers-requires : tie.Need-store-numbers-requires
+store-numbers-requires c κs = search needs
 
 same-length : tie.Need-same-length
 same-length c = search needs
 
 returns : tie.Need-returns
 unfolding nineOf
-returns c = c .before .before .put-numbers .ensures
+returns c = c .before .before .store-numbers .ensures
 
 pub put-sections-spec : {M : Type 1} → statement M
 put-sections-spec =
@@ -37,7 +37,7 @@ put-sections-spec =
     cast-t10
     cast-t11
     cast-t12
-    slice-aggregate-put-numbers
-    put-numbers-requires
+    slice-aggregate-store-numbers
+    store-numbers-requires
     same-length
     returns)

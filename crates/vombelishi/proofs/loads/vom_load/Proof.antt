@@ -21,9 +21,9 @@ refused-requires c κs = search needs
 enum-told : tie.Need-enum-told
 enum-told c = search needs
 
-put-list-requires : tie.Need-put-list-requires
+store-list-requires : tie.Need-store-list-requires
 unfolding loadCall
-put-list-requires c κs =
+store-list-requires c κs =
     let args = c .before .before .before .before .before .before .before .before .before .before .args in
     not-short (args .values .now) (args .written .now) (λ g. loadTold (args .words .now)) tt
     (sym (c .before .before .before .before .judge-list .ensures) ∙ ap answerSays (c .before .before .enum-told .given .1))
@@ -53,7 +53,7 @@ unfolding loadValuesLeaves loadWrittenLeaves
 returns-2 c =
     let args = c .before .before .before .before .before .before .before .before .before .before .before .before .before .before .before .args in
     let judged = c .before .before .before .before .before .before .before .before .before .judge-list in
-    let put = c .before .before .before .before .put-list in
+    let put = c .before .before .before .before .store-list in
     twofold-done (loadCall (args .values .now) (args .written .now) (args .words .now))
     (args .values .now) (valuesStored (args .values .now) (args .words .now)) (args .written .now) (flagsStored (args .written .now) (args .words .now)) _ _
     (sym (judged .ensures) ∙ ap answerSays (c .before .before .before .before .before .before .before .enum-told .given .1)) (put .ensures .0) (put .ensures .1)
@@ -66,7 +66,7 @@ vom-load-spec =
     enum-known-why
     refused-requires
     enum-told
-    put-list-requires
+    store-list-requires
     same-length
     same-length-2
     returns

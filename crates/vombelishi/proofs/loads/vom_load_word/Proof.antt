@@ -21,9 +21,9 @@ refused-requires c κs = search needs
 enum-told : tie.Need-enum-told
 enum-told c = search needs
 
-put-word-requires : tie.Need-put-word-requires
+store-word-requires : tie.Need-store-word-requires
 unfolding wordCall
-put-word-requires c κs =
+store-word-requires c κs =
     let args = c .before .before .before .before .before .before .before .before .before .args in
     not-short (args .values .now) (args .written .now) (λ g. wordTold (args .word)) tt
     (sym (c .before .before .before .before .judge-word .ensures) ∙ ap answerSays (c .before .before .enum-told .given .1))
@@ -53,7 +53,7 @@ unfolding wordValuesLeaves wordWrittenLeaves
 returns-2 c =
     let args = c .before .before .before .before .before .before .before .before .before .before .before .before .before .before .args in
     let judged = c .before .before .before .before .before .before .before .before .before .judge-word in
-    let put = c .before .before .before .before .put-word in
+    let put = c .before .before .before .before .store-word in
     twofold-done (wordCall (args .values .now) (args .written .now) (args .word))
     (args .values .now) (valueStored (args .values .now) (args .word)) (args .written .now) (flagStored (args .written .now) (args .word)) _ _
     (sym (judged .ensures) ∙ ap answerSays (c .before .before .before .before .before .before .before .enum-told .given .1)) (put .ensures .0) (put .ensures .1)
@@ -66,7 +66,7 @@ vom-load-word-spec =
     enum-known-why
     refused-requires
     enum-told
-    put-word-requires
+    store-word-requires
     same-length
     same-length-2
     returns

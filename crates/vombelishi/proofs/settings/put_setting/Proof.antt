@@ -91,11 +91,11 @@ cast-t29 c =
     let past2 = past1 .before .before .before .before .before .before .before .before .before .before in
     let s = past2 .before .before .before .before .before in omega (arith, c .cursor-words .ensures, cursor-most (s .args .s) (s .pre .1))
 
-slice-aggregate-put-words : tie.Need-slice-aggregate-put-words
-slice-aggregate-put-words c = search needs
+slice-aggregate-store-words : tie.Need-slice-aggregate-store-words
+slice-aggregate-store-words c = search needs
 
-put-words-requires : tie.Need-put-words-requires
-put-words-requires c κs =
+store-words-requires : tie.Need-store-words-requires
+store-words-requires c κs =
     let past1 = c .before .before .before .before .before .before .before .before .before .before in
     let past2 = past1 .before .before .before .before .before .before .before .before .before .before in
     let pre = past2 .before .before .before .before .before .before .before .pre in
@@ -111,7 +111,7 @@ returns c =
     let past2 = past1 .before .before .before .before .before .before .before .before .before .before in
     let past1 = past1 in
     let past2 = past1 .before .before .before .before .before .before .before .before .before .before in
-    c .before .before .put-words .ensures
+    c .before .before .store-words .ensures
     ∙ simp (
       c .before .before .before .before .before .cursor-words .ensures,
       c .before .before .before .before .before .before .video-words .ensures,
@@ -168,7 +168,7 @@ put-setting-spec =
     cast-t27
     cursor-words-requires
     cast-t29
-    slice-aggregate-put-words
-    put-words-requires
+    slice-aggregate-store-words
+    store-words-requires
     same-length
     returns)

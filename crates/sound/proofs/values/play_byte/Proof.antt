@@ -6,8 +6,8 @@ use Rattle.sound.proofs.Signed.{stored}
 use lib.ListN.{length-set}
 use native.Mathlib.Omega.{arith}
 use borrow.Author.Needs.{needs}
-use Rattle.sound.proofs.values.put_byte.Statement.{statement}
-use Rattle.sound.proofs.values.put_byte.Tie as tie
+use Rattle.sound.proofs.values.play_byte.Statement.{statement}
+use Rattle.sound.proofs.values.play_byte.Tie as tie
 
 cast-channel : tie.Need-cast-channel
 cast-channel c = search needs
@@ -49,8 +49,8 @@ returns c = let a = c .before .before .before .before .args in
     (stored (a .byte) _ _ (search needs) (p .1 (channelOf (a .counter))) (c .before .before .value .ensures))
     (stored (a .byte) _ _ (search needs) (p .2 (channelOf (a .counter))) (c .value2 .ensures))
 
-pub put-byte-spec : {M : Type 1} → statement M
-put-byte-spec =
+pub play-byte-spec : {M : Type 1} → statement M
+play-byte-spec =
     tie.close
     (tie.spec
     cast-channel

@@ -9,8 +9,8 @@ use Rattle.buffers.specs.Words.{bytesOf}
 use Rattle.sound.specs.Values.{counterAfter, valuesOf}
 use Rattle.sound.specs.inner.Tables.{inTable}
 use Rattle.sound.proofs.Turns.{words-turn, words-done}
-use Rattle.sound.proofs.values.put_words.Statement.{statement}
-use Rattle.sound.proofs.values.put_words.Tie as tie
+use Rattle.sound.proofs.values.play_words.Statement.{statement}
+use Rattle.sound.proofs.values.play_words.Tie as tie
 
 abbrev Inv-loop : tie.InvT-loop
 Inv-loop out₀ words counter lefts rights table c₀ k₀ out c k =
@@ -24,17 +24,17 @@ abbrev μ-loop : tie.MeasureT-loop
 loop-holds : tie.Need-loop-holds Inv-loop μ-loop
 loop-holds c = (search needs, search needs, omega arith, refl)
 
-mul-put-word : tie.Need-mul-put-word Inv-loop μ-loop
-mul-put-word c = search needs
+mul-play-word : tie.Need-mul-play-word Inv-loop μ-loop
+mul-play-word c = search needs
 
-mul-put-word-2 : tie.Need-mul-put-word-2 Inv-loop μ-loop
-mul-put-word-2 c = search needs
+mul-play-word-2 : tie.Need-mul-play-word-2 Inv-loop μ-loop
+mul-play-word-2 c = search needs
 
-shared-slice-read-put-word : tie.Need-shared-slice-read-put-word Inv-loop μ-loop
-shared-slice-read-put-word c = search needs
+shared-slice-read-play-word : tie.Need-shared-slice-read-play-word Inv-loop μ-loop
+shared-slice-read-play-word c = search needs
 
-put-word-requires : tie.Need-put-word-requires Inv-loop μ-loop
-put-word-requires c κs = (
+play-word-requires : tie.Need-play-word-requires Inv-loop μ-loop
+play-word-requires c κs = (
   search needs,
   c .before .before .before .before .before .pre .1,
   c .before .before .before .before .before .pre .2,
@@ -53,7 +53,7 @@ loop-less c = search needs
 loop-again : tie.Need-loop-again Inv-loop μ-loop
 loop-again c =
     let loop = c .before .before .before .before .before .before .loop in
-    let put-word = c .before .before .put-word in
+    let play-word = c .before .before .play-word in
     let s = c .before .before .before .before .before .before .before .before in
     let l = loop in
     let a = s .args in (
@@ -61,7 +61,7 @@ loop-again c =
       search needs,
       omega (arith, c .advanced .ensures, l .inv .2),
       l .inv .3 ∙ words-turn (inTable (a .lefts .now)) (inTable (a .rights .now)) (a .words .now) (l .out) _ (l .k) (l .c) _ (search needs)
-          (c .advanced .ensures) (put-word .ensures),
+          (c .advanced .ensures) (play-word .ensures),
     )
 
 same-length : tie.Need-same-length Inv-loop μ-loop
@@ -77,17 +77,17 @@ returns c =
           (l .inv .3 ∙ words-done (inTable (a .lefts .now)) (inTable (a .rights .now)) (a .words .now) (l .out) _ (l .k) (l .c) (search needs)),
     )
 
-pub put-words-spec : {M : Type 1} → statement M
-put-words-spec =
+pub play-words-spec : {M : Type 1} → statement M
+play-words-spec =
     tie.close
     (tie.spec
     Inv-loop
     μ-loop
     loop-holds
-    mul-put-word
-    mul-put-word-2
-    shared-slice-read-put-word
-    put-word-requires
+    mul-play-word
+    mul-play-word-2
+    shared-slice-read-play-word
+    play-word-requires
     advanced-requires
     add-k
     loop-less

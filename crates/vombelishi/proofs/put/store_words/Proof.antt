@@ -5,8 +5,8 @@ use mathlib.Core.Path.{_≡_, sym, _∙_}
 use lib.ListN.{length, drop}
 use lib.Seq.{sets}
 use Rattle.buffers.proofs.Sets.{sets-turn, sets-done}
-use Rattle.vombelishi.proofs.put.put_numbers.Statement.{statement}
-use Rattle.vombelishi.proofs.put.put_numbers.Tie as tie
+use Rattle.vombelishi.proofs.put.store_words.Statement.{statement}
+use Rattle.vombelishi.proofs.put.store_words.Tie as tie
 
 abbrev Inv-loop : tie.InvT-loop
 Inv-loop out₀ values k₀ out k = (k ≤ length values) × (length out ≡ length out₀) × (sets out₀ 0 values ≡ sets out k (drop k values))
@@ -50,8 +50,8 @@ returns c =
     let l = c .before .loop in
     sym (l .inv .2 ∙ sets-done (l .out) (s .args .values .now) (l .k) (l .k) (search needs))
 
-pub put-numbers-spec : {M : Type 1} → statement M
-put-numbers-spec =
+pub store-words-spec : {M : Type 1} → statement M
+store-words-spec =
     tie.close
     (tie.spec
     Inv-loop

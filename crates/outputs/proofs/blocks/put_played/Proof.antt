@@ -4,8 +4,8 @@ use lib.ListN.{length, replicate}
 use lib.IntN.{pos}
 use Rattle.outputs.proofs.Waves.{samples-put}
 use borrow.Author.Needs.{needs}
-use Rattle.outputs.proofs.blocks.put_words.Statement.{statement}
-use Rattle.outputs.proofs.blocks.put_words.Tie as tie
+use Rattle.outputs.proofs.blocks.put_played.Statement.{statement}
+use Rattle.outputs.proofs.blocks.put_played.Tie as tie
 
 slice-aggregate-play : tie.Need-slice-aggregate-play
 slice-aggregate-play c = search needs
@@ -40,8 +40,8 @@ returns c =
     samples-put (s .args .g) (s .args .words .now) (s .args .counter) (replicate 2048 (pos 0)) _ (s .pre .2) (play .ensures .2) (omega (arith, few))
     (length (s .args .out .now)) (omega (arith, s .pre .0, few)) (samples .ensures)
 
-pub put-words-spec : {M : Type 1} → statement M
-put-words-spec =
+pub put-played-spec : {M : Type 1} → statement M
+put-played-spec =
     tie.close
     (tie.spec
     slice-aggregate-play

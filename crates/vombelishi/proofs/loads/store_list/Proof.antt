@@ -4,8 +4,8 @@ use Prim.Native.Nat.{_-_, _≤_}
 use mathlib.Core.Path.{refl, sym, _∙_}
 use lib.ListN.{length}
 use Rattle.vombelishi.proofs.Loading.{Storing, Flagging, values-turn, flags-turn, values-all, flags-all}
-use Rattle.vombelishi.proofs.loads.put_list.Statement.{statement}
-use Rattle.vombelishi.proofs.loads.put_list.Tie as tie
+use Rattle.vombelishi.proofs.loads.store_list.Statement.{statement}
+use Rattle.vombelishi.proofs.loads.store_list.Tie as tie
 
 abbrev Inv-loop : tie.InvT-loop
 Inv-loop values₀ written₀ words i₀ values written i = (i ≤ length words) × Storing words i values₀ values × Flagging words i written₀ written
@@ -16,14 +16,14 @@ abbrev μ-loop : tie.MeasureT-loop
 loop-holds : tie.Need-loop-holds Inv-loop μ-loop
 loop-holds c = (search needs, (refl, refl), (refl, refl))
 
-mul-put-word : tie.Need-mul-put-word Inv-loop μ-loop
-mul-put-word c = search needs
+mul-store-word : tie.Need-mul-store-word Inv-loop μ-loop
+mul-store-word c = search needs
 
-shared-slice-read-put-word : tie.Need-shared-slice-read-put-word Inv-loop μ-loop
-shared-slice-read-put-word c = search needs
+shared-slice-read-store-word : tie.Need-shared-slice-read-store-word Inv-loop μ-loop
+shared-slice-read-store-word c = search needs
 
-put-word-requires : tie.Need-put-word-requires Inv-loop μ-loop
-put-word-requires c κs = search needs
+store-word-requires : tie.Need-store-word-requires Inv-loop μ-loop
+store-word-requires c κs = search needs
 
 add-i : tie.Need-add-i Inv-loop μ-loop
 add-i c = search needs
@@ -36,7 +36,7 @@ loop-again c =
     let loop = c .before .before .before .before .before .before .before .before .before .loop in
     let turn = c .before .before .before .before .before .before .before .before .loop-test .taken in
     let words = c .before .before .before .before .before .before .before .before .before .before .before .before .before .args .words .now in
-    let put = c .before .before .before .before .put-word in (
+    let put = c .before .before .before .before .store-word in (
       search needs,
       values-turn words (loop .i) _ (loop .values) _ turn (loop .inv .1) (put .ensures .0),
       flags-turn words (loop .i) _ (loop .written) _ turn (loop .inv .2) (put .ensures .1),
@@ -54,16 +54,16 @@ returns c =
     let words = c .before .before .before .before .before .args .words .now in
     (sym (loop .inv .1 .1 ∙ values-all words (loop .i) _ (search needs)), sym (loop .inv .2 .1 ∙ flags-all words (loop .i) _ (search needs)))
 
-pub put-list-spec : {M : Type 1} → statement M
-put-list-spec =
+pub store-list-spec : {M : Type 1} → statement M
+store-list-spec =
     tie.close
     (tie.spec
     Inv-loop
     μ-loop
     loop-holds
-    mul-put-word
-    shared-slice-read-put-word
-    put-word-requires
+    mul-store-word
+    shared-slice-read-store-word
+    store-word-requires
     add-i
     loop-less
     loop-again
