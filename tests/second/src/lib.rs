@@ -4,6 +4,7 @@
 pub mod address;
 pub mod cell;
 pub mod colour;
+pub mod drawn;
 pub mod frame;
 pub mod grey;
 pub mod load;

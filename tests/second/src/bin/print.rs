@@ -1,6 +1,7 @@
 //! The run printer: a plate on standard input, its text on standard output.
 
-use second::text::{text, MOST_INPUT};
+use second::drawn::MOST_INPUT;
+use second::text::text;
 use std::io::{self, Read, Write};
 
 fn main() -> io::Result<()> {
