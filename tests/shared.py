@@ -9,7 +9,7 @@ loader.exec_module(made)
 
 
 class Checks:
-    """Counts what was compared, and names each thing at fault."""
+    """Counts what was compared, and names each thing at fault; with FIRST in the environment it ends at the first."""
 
     def __init__(self):
         self.passed = self.failed = 0
@@ -20,6 +20,8 @@ class Checks:
         else:
             self.failed += 1
             print(f"FAILED {what}: {said!r:.300}, and wanted {wanted!r:.300}")
+            if "FIRST" in os.environ:
+                self.end()
 
     def end(self):
         print(f"{self.passed} passed, {self.failed} failed")
