@@ -1,4 +1,5 @@
-"""What info is to say of register words, a line each: from the paper and the data sheet, and not from its source."""
+"""What info is to say of register words, a line each: a second account, so that a change of one shows. What a register's data means
+follows the paper and the data sheet; the words and columns are info's own, and whoever wrote this had read its source."""
 
 PIXELS = {0x80: ("HCR", "N"), 0x84: ("HSWR", "HS"), 0x88: ("HBSR", "BS"), 0x8C: ("HDSR", "DS"), 0x90: ("HDER", "DE"), 0x94: ("HBER", "BE")}
 RASTERS = dict(zip(range(0xA0, 0xC0, 4), (("VCR", "V"), ("VSWR", "VS"), ("VBSR", "VBS"), ("VDSR", "VDS"), ("VDER", "VDE"), ("VBER", "VBE"),
