@@ -6,7 +6,6 @@ use mathlib.Core.List.{List, [], _∷_, _++_}
 use lib.ListN.{length}
 use lib.Seq.{sets}
 use Rattle.buffers.specs.Painted.{painted}
-use Rattle.refusals.specs.Table.{refused}
 use Rattle.registers.specs.Record.{storedOf, wordTable}
 use Rattle.refusals.proofs.Tables.{judged-then}
 use Rattle.registers.specs.Load.{applied, loadTable}

@@ -2,7 +2,7 @@
 use mathlib.Core.Path.{_≡_, sym, _∙_, ap, subst}
 use mathlib.Core.List.{List, [], _∷_}
 use mathlib.Core.Logic.{inl, inr}
-use Rattle.refusals.specs.Table.{Why, Told, refused, Row, judged, unlessRefused, First}
+use Rattle.refusals.specs.Table.{Why, Told, Row, judged, unlessRefused, First}
 use Rattle.refusals.proofs.Tables.{passes-given, given-passes, refused-first, first-refused}
 use Rattle.claims.specs.Calls.{numbers, OneOf, ByTable, Kept}
 

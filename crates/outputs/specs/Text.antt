@@ -2,7 +2,7 @@
 use Prim.Native.Nat.{ℕ, zero, suc, _+_, _-_}
 use mathlib.Core.List.{List, [], _∷_, _++_}
 use lib.ListN.{length}
-use lib.Dec.{eqb, ltb, leb}
+use lib.Dec.{eqb, leb}
 use Rattle.buffers.specs.Pick.{pick}
 use Rattle.buffers.specs.Values.{valuesFrom}
 use Rattle.refusals.specs.Table.{Why, Told, given, refused}

@@ -1,5 +1,5 @@
 -- The first words, one a turn, as far as there are bytes and room: what is stored and what the rest will store make the whole.
-use mathlib.Core.Path.{_≡_, refl, sym, _∙_}
+use mathlib.Core.Path.{_≡_, sym, _∙_}
 use Prim.Native.Nat.{_≤_, _*_, _-_, _/_, min}
 use native.Mathlib.Omega.{arith}
 use borrow.Author.Needs.{needs}
