@@ -33,6 +33,10 @@ pub enum Refusal {
     PlateFile,
     // 15: a plate or printer input too large
     TooLarge,
+    // 16: load into a full queue, or with its count at its largest
+    Full,
+    // 17: read from an empty queue
+    Empty,
 }
 
 // The number and the detail of a row.
@@ -58,6 +62,8 @@ impl Refusal {
             Refusal::Short => Numbers(13, 0),
             Refusal::PlateFile => Numbers(14, 0),
             Refusal::TooLarge => Numbers(15, 0),
+            Refusal::Full => Numbers(16, 0),
+            Refusal::Empty => Numbers(17, 0),
         }
     }
 
