@@ -22,3 +22,7 @@ cursorAsk g y = pick (isCursorAsk (settingOf g) y) 4 0
 -- its end for eight video words.
 unfoldable pub videoAsk : Registers → ℕ → ℕ
 videoAsk g y = pick (isVideoAsk (settingOf g) y) 8 0
+
+-- What both ask of a queue, by its kind.
+unfoldable pub syncAsk : Registers → ℕ → ℕ → ℕ
+syncAsk g kind y = pick (eqb kind 0) (videoAsk g y) (pick (eqb kind 1) (cursorAsk g y) 0)

@@ -5,7 +5,7 @@ use registers::setting::Setting;
 use registers::units::Rasters;
 ghost use mathlib.Core.Path.{_≡_};
 ghost use Prim.Native.Nat.{_-_};
-ghost use Rattle.queues.specs.Syncs.{cursorAsk, videoAsk, isCursorAsk, isVideoAsk};
+ghost use Rattle.queues.specs.Syncs.{cursorAsk, videoAsk, syncAsk, isCursorAsk, isVideoAsk};
 
 // How far a raster lies below another, 0 where it lies above.
 fn below(raster: u32, first: u32) -> u32
@@ -50,4 +50,17 @@ pub fn video_ask(g: Registers, raster: u32) -> u32
     ensures { λ r. ⌜ r ≡ videoAsk g raster ⌝ }
 {
     words_if(is_video_ask(g.setting(), raster), 8)
+}
+
+// How many words a raster's sync, from its start to its end, asks of a queue of a kind.
+pub fn sync_ask(g: Registers, kind: u16, raster: u32) -> u32
+    ensures { λ r. ⌜ r ≡ syncAsk g kind raster ⌝ }
+{
+    if kind == 0 {
+        return video_ask(g, raster);
+    }
+    if kind == 1 {
+        return cursor_ask(g, raster);
+    }
+    0
 }
