@@ -60,7 +60,13 @@ pub extern "C" fn vom_queue_ask(queue: &mut Queue, words: u32) -> Reply
 
 // How many words a raster's sync asks of a queue of a kind; 13 for slices shorter than 64.
 #[no_mangle]
-pub extern "C" fn vom_sync_ask(values: &[u32], written: &[u8], kind: u16, raster: u32, words: &mut u32) -> u64
+pub extern "C" fn vom_sync_ask(
+    values: &[u32],
+    written: &[u8],
+    kind: u16,
+    raster: u32,
+    words: &mut u32,
+) -> u64
     ensures { λ r. ⌜
         (r ≡ answerCode (syncCall (now (values .entry)) (now (written .entry)) kind raster))
         × (now (words .exit) ≡ cellBy (syncCall (now (values .entry)) (now (written .entry)) kind raster) (now (words .entry)))

@@ -1,0 +1,4 @@
+// A bench that runs live.
+mod bench;
+
+fn main() {}
