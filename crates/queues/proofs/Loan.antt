@@ -35,7 +35,7 @@ use Rattle.queues.proofs.Queue as Q
 use Rattle.queues.proofs.Queue.Laws as Q′
 use Rattle.queues.proofs.Reply as R
 use Rattle.queues.proofs.Reply.Laws as R′
-use Rattle.queues.proofs.Thin.{Lent, queueVals, replyVals}
+use Rattle.queues.proofs.Thin.{Lent, queueVal, queueVals, replyVal, replyVals}
 
 -- The queue in the local at l.
 abbrev pub lies : Queue → ℕ → Fml
@@ -44,12 +44,6 @@ lies h l = mem Q.the-row .lies h l 0
 -- What the lender keeps while it is lent for the lifetime α under the name γ.
 abbrev away : ℕ → ℕ → GName → Fml
 away l α γ = flent (α ∷ []) (Held (mem Q.the-row) l 0 γ)
-
-abbrev pub queueVal : Queue → Val
-queueVal = LL.val Q.the-type Q′.the-laws
-
-abbrev pub replyVal : Reply → Val
-replyVal = LL.val R.the-type R′.the-laws
 
 module _ {M : Type 1} (𝓤 : URA M) (H : Heap 𝓤) (A : Atoms 𝓤) (W : Given 𝓤 H A) where
   -- A local's cell is a queue in memory, and a queue in memory is room for another.
