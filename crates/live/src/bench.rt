@@ -56,7 +56,7 @@ fn plus(a: u32, b: u32) -> u32
 }
 
 // A difference, 0 where there is none.
-fn less(n: u32, by: u32) -> u32
+pub fn less(n: u32, by: u32) -> u32
     ensures { λ r. ⌜ r ≡ n - by ⌝ }
 {
     if n < by {
@@ -84,7 +84,7 @@ fn byte_or(words: &[u32], at: u32) -> u16
 }
 
 // A number of a raster's row in the table, 0 behind its end: each raster has three.
-fn number_at(told: &[u32], raster: u32, k: u32) -> u32
+pub fn number_at(told: &[u32], raster: u32, k: u32) -> u32
     ensures { λ r. ⌜ r ≡ numberAt (now (told .entry)) raster k ⌝ }
 {
     let at = 3 * (raster as usize) + k as usize;
@@ -94,7 +94,7 @@ fn number_at(told: &[u32], raster: u32, k: u32) -> u32
     0
 }
 
-fn put_number(told: &mut [u32], raster: u32, k: u32, n: u32)
+pub fn put_number(told: &mut [u32], raster: u32, k: u32, n: u32)
     ensures { λ _. ⌜ now (told .exit) ≡ numberPut (now (told .entry)) raster k n ⌝ }
 {
     let at = 3 * (raster as usize) + k as usize;

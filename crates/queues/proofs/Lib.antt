@@ -1,4 +1,5 @@
 pub mod Fits
 pub mod Counts
 pub mod Thin
+pub mod Loan
 pub mod Unique
