@@ -1,0 +1,4 @@
+pub mod Rings
+pub mod Moves
+pub mod Agree
+pub mod Told

@@ -1,0 +1,4 @@
+pub mod Calls
+pub mod Account
+pub mod Since
+pub mod Opens

@@ -1,0 +1,45 @@
+-- What a history's own calls and answers tell since the last emptying: the words loaded, the bytes given, and the record it began with.
+use Prim.Native.Nat.{ℕ}
+use mathlib.Core.List.{List, [], _∷_, _++_}
+use lib.Dec.{eqb}
+use lib.ListN.{length}
+use Rattle.buffers.specs.Pick.{pick}
+use Rattle.queues.specs.Queue.{freshOf, fittedOf}
+use Rattle.queues.specs.declared.Queue.{Queue}
+use Rattle.histories.specs.Calls.{Call, load, read, vertical, ask, horizontal, ends, Answered}
+use Rattle.histories.specs.Account.{empties}
+
+-- The word that an accepted load has loaded, and the byte that an accepted read has given.
+abbrev pub wordIn : Call → ℕ → List ℕ
+wordIn (load w) number = pick (eqb number 0) (w ∷ []) []
+wordIn (read control) number = []
+wordIn (vertical raster) number = []
+wordIn (ask words) number = []
+wordIn (horizontal g y) number = []
+wordIn (ends g y) number = []
+
+abbrev pub byteIn : Call → ℕ → ℕ → List ℕ
+byteIn (load w) number byte = []
+byteIn (read control) number byte = pick (eqb number 0) (byte ∷ []) []
+byteIn (vertical raster) number byte = []
+byteIn (ask words) number byte = []
+byteIn (horizontal g y) number byte = []
+byteIn (ends g y) number byte = []
+
+-- In the order of the calls, since the last that empties a queue of this kind.
+unfoldable pub wordsSince : ℕ → List Answered → List ℕ
+wordsSince kind [] = []
+wordsSince kind (x ∷ xs) = pick (empties kind (x .call)) [] (wordsSince kind xs ++ wordIn (x .call) (x .reply .number))
+
+unfoldable pub bytesSince : ℕ → List Answered → List ℕ
+bytesSince kind [] = []
+bytesSince kind (x ∷ xs) = pick (empties kind (x .call)) [] (bytesSince kind xs ++ byteIn (x .call) (x .reply .number) (x .reply .byte))
+
+-- The loads in the history: accepted ones, since the last emptying.
+abbrev pub loadsSince : ℕ → List Answered → ℕ
+loadsSince kind history = length (wordsSince kind history)
+
+-- The record that the calls since then began with: a fresh one, or where nothing has emptied it the first record, a fresh one if that is unfit.
+unfoldable pub startOf : Queue → List Call → Queue
+startOf q [] = fittedOf q
+startOf q (c ∷ cs) = pick (empties (q .ring .kind) c) (freshOf (q .ring .kind)) (startOf q cs)
