@@ -21,8 +21,8 @@ use Rattle.queues.proofs.Fits.{by-test, fresh-fit}
 use Rattle.histories.specs.Calls.{read}
 use Rattle.histories.specs.Account.{Account, opened, counted, wholly, holds, nextByte, isFullBy, isEmptyBy}
 use Rattle.histories.specs.Account.{askedAtEnd, asksFor, comingWith, withLoaded, withGiven, withAsked}
-use Rattle.histories.specs.Opens.{ringFrom, heldWords, opens}
-use Rattle.histories.proofs.Moves.{bytesLeft, up-to-min, length-held, put-bytes, taken-bytes, not-full, put-fit, asked-fit, taken-fit}
+use Rattle.histories.specs.Opens.{ringFrom, heldWords, bytesLeft, opens}
+use Rattle.histories.proofs.Moves.{up-to-min, length-held, put-bytes, taken-bytes, not-full, put-fit, asked-fit, taken-fit}
 
 pub record Agree (q : Queue) (a : Account) : Type 0 where
   pub fit : Fit (q .ring)

@@ -2,3 +2,5 @@ pub mod Rings
 pub mod Moves
 pub mod Agree
 pub mod Told
+pub mod Stretch
+pub mod Order

@@ -17,15 +17,12 @@ use Rattle.queues.specs.Steps.{ringPut, upTo, ringAsked, askedBy, byteTaken, wi
 use Rattle.queues.specs.declared.Queue.{Queue}
 use Rattle.queues.specs.declared.Ring.{Ring}
 use Rattle.queues.proofs.Fits.{by-test}
-use Rattle.histories.specs.Opens.{ringFrom, heldWords}
+use Rattle.histories.specs.Opens.{ringFrom, heldWords, bytesLeft}
 use Rattle.histories.proofs.Rings.{around-lt, ring-put, length-ring}
 
 -- The bytes still to read, of a record's words and numbers.
 abbrev pub bytesIn : List ℕ → Ring → List ℕ
 bytesIn words r = drop (r .taken) (bytesOf (ringFrom words (depthOf (r .kind)) (r .place) (r .held)))
-
-abbrev pub bytesLeft : Queue → List ℕ
-bytesLeft q = bytesIn (q .words) (q .ring)
 
 pub up-to-min : (limit a b : ℕ) → upTo limit a b ≡ min limit (a + b)
 up-to-min limit a b =

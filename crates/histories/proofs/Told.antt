@@ -24,7 +24,7 @@ use Rattle.histories.specs.Opens.{opens}
 use Rattle.histories.proofs.Agree.{Agree, full-is, empty-is, next-is, agree-put, agree-asked, agree-taken, agree-fresh, agree-opens}
 
 -- Two choices by tests that are the same.
-by-tests : {A B : Type 0} (P : A → B → Type 0) (s t : Bool) {x y : A} {v w : B} → s ≡ t → (s ≡ true → P x v) → (s ≡ false → P y w)
+pub by-tests : {A B : Type 0} (P : A → B → Type 0) (s t : Bool) {x y : A} {v w : B} → s ≡ t → (s ≡ true → P x v) → (s ≡ false → P y w)
     → P (pick s x y) (pick t v w)
 by-tests P true t e p q = rw (← e) (p refl)
 by-tests P false t e p q = rw (← e) (q refl)

@@ -1,7 +1,7 @@
 -- A fit record as the end of a history: the words it holds, in order, of which the first has lost the bytes already read.
 use Prim.Native.Nat.{ℕ, zero, suc, _+_, _-_}
 use mathlib.Core.List.{List, [], _∷_}
-use lib.ListN.{getD, take}
+use lib.ListN.{getD, take, drop}
 use Rattle.buffers.specs.Words.{bytesOf}
 use Rattle.queues.specs.Queue.{depthOf, around}
 use Rattle.queues.specs.declared.Queue.{Queue}
@@ -14,6 +14,10 @@ ringFrom words depth place (suc n) = getD words place 0 ∷ ringFrom words depth
 
 abbrev pub heldWords : Queue → List ℕ
 heldWords q = ringFrom (q .words) (depthOf (q .ring .kind)) (q .ring .place) (q .ring .held)
+
+-- The bytes still to read.
+abbrev pub bytesLeft : Queue → List ℕ
+bytesLeft q = drop (q .ring .taken) (bytesOf (heldWords q))
 
 abbrev pub opens : Queue → Account
 opens q =

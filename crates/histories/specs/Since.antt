@@ -2,11 +2,10 @@
 use Prim.Native.Nat.{ℕ}
 use mathlib.Core.List.{List, [], _∷_, _++_}
 use lib.Dec.{eqb}
-use lib.ListN.{length}
 use Rattle.buffers.specs.Pick.{pick}
 use Rattle.queues.specs.Queue.{freshOf, fittedOf}
 use Rattle.queues.specs.declared.Queue.{Queue}
-use Rattle.histories.specs.Calls.{Call, load, read, vertical, ask, horizontal, ends, Answered}
+use Rattle.histories.specs.Calls.{Call, load, read, vertical, ask, horizontal, ends, Answered, answers}
 use Rattle.histories.specs.Account.{empties}
 
 -- The word that an accepted load has loaded, and the byte that an accepted read has given.
@@ -35,9 +34,12 @@ unfoldable pub bytesSince : ℕ → List Answered → List ℕ
 bytesSince kind [] = []
 bytesSince kind (x ∷ xs) = pick (empties kind (x .call)) [] (bytesSince kind xs ++ byteIn (x .call) (x .reply .number) (x .reply .byte))
 
--- The loads in the history: accepted ones, since the last emptying.
-abbrev pub loadsSince : ℕ → List Answered → ℕ
-loadsSince kind history = length (wordsSince kind history)
+-- So of the calls on a record: the words they have loaded and the bytes they were given since the last emptying, by their own answers.
+abbrev pub loadedBy : Queue → List Call → List ℕ
+loadedBy q calls = wordsSince (q .ring .kind) (answers q calls)
+
+abbrev pub givenBy : Queue → List Call → List ℕ
+givenBy q calls = bytesSince (q .ring .kind) (answers q calls)
 
 -- The record that the calls since then began with: a fresh one, or where nothing has emptied it the first record, a fresh one if that is unfit.
 unfoldable pub startOf : Queue → List Call → Queue

@@ -1,0 +1,121 @@
+-- What an account has loaded and given is what its history's own calls and answers tell since the last emptying, behind what it began with.
+use Prim.Native.Nat.{ℕ}
+use mathlib.Core.Bool.{true, false}
+use mathlib.Core.List.{List, [], _∷_, _++_, append-assoc, append-nil}
+use mathlib.Core.Logic.{inl, inr}
+use mathlib.Core.Path.{_≡_, refl, sym, _∙_, ap, subst}
+use lib.ListN.{length}
+use Rattle.buffers.specs.Pick.{pick}
+use Rattle.buffers.specs.Words.{bytesOf}
+use Rattle.buffers.proofs.Tests.{no}
+use Rattle.buffers.proofs.Split.{true-or-false}
+use Rattle.queues.specs.Queue.{freshOf, fittedOf, Fit}
+use Rattle.queues.specs.declared.Queue.{Queue}
+use Rattle.queues.proofs.Fits.{by-test, fresh-fit, fitted-fit, fitted-kind}
+use Rattle.histories.specs.Calls.{Call, load, read, vertical, ask, horizontal, ends, answers}
+use Rattle.histories.specs.Account.{Account, Turn, opened, isFullBy, isEmptyBy, empties, asksFor, withLoaded, withGiven, withAsked}
+use Rattle.histories.specs.Account.{nextByte, turn, turned, account, says}
+use Rattle.histories.specs.Since.{wordIn, byteIn, wordsSince, bytesSince, loadedBy, givenBy, startOf}
+use Rattle.histories.specs.Opens.{ringFrom, opens}
+use Rattle.histories.proofs.Told.{by-tests, told}
+
+-- One account goes on from another by so many words and bytes.
+pub record Grows (a b : Account) (words bytes : List ℕ) : Type 0 where
+  pub kind : b .kind ≡ a .kind
+  pub before : b .before ≡ a .before
+  pub first : b .first ≡ a .first
+  pub loaded : b .loaded ≡ a .loaded ++ words
+  pub given : b .given ≡ a .given ++ bytes
+
+module _ (a : Account) where
+  stays : Grows a a [] []
+  stays = record { kind = refl; before = refl; first = refl; loaded = sym (append-nil (a .loaded)); given = sym (append-nil (a .given)) }
+
+  asked : (words : ℕ) → Grows a (withAsked a words) [] []
+  asked words = record { kind = refl; before = refl; first = refl; loaded = sym (append-nil (a .loaded)); given = sym (append-nil (a .given)) }
+
+  grows : (c : Call) → empties (a .kind) c ≡ false
+      → Grows a (turned a c .account) (wordIn c (turned a c .reply .number)) (byteIn c (turned a c .reply .number) (turned a c .reply .byte))
+  grows (load w) e =
+      by-test (λ (t : Turn). Grows a (t .account) (wordIn (load w) (t .reply .number)) []) (isFullBy a) {y = turn (withLoaded a w) 0 0}
+      (λ f. stays)
+      (λ f. record { kind = refl; before = refl; first = refl; loaded = refl; given = sym (append-nil (a .given)) })
+  grows (read control) e =
+      by-test (λ (t : Turn). Grows a (t .account) [] (byteIn (read control) (t .reply .number) (t .reply .byte))) (isEmptyBy a)
+      {y = turn (withGiven a (nextByte a) (asksFor a (read control))) 0 (nextByte a)}
+      (λ f. stays)
+      (λ f. record { kind = refl; before = refl; first = refl; loaded = sym (append-nil (a .loaded)); given = refl })
+  grows (vertical raster) e = rw e stays
+  grows (ask words) e = asked words
+  grows (horizontal g y) e = asked (asksFor a (horizontal g y))
+  grows (ends g y) e = asked (asksFor a (ends g y))
+
+  emptied : (c : Call) → empties (a .kind) c ≡ true → turned a c .account ≡ opened (a .kind)
+  emptied (load w) e = absurd (no e)
+  emptied (read control) e = absurd (no e)
+  emptied (vertical raster) e = rw e
+  emptied (ask words) e = absurd (no e)
+  emptied (horizontal g y) e = absurd (no e)
+  emptied (ends g y) e = absurd (no e)
+
+-- The account that the calls since the last emptying began with.
+unfoldable begun : Account → List Call → Account
+begun a [] = a
+begun a (c ∷ cs) = pick (empties (a .kind) c) (opened (a .kind)) (begun a cs)
+
+grows-on : (a b c : Account) (words bytes more others : List ℕ) → Grows a b words bytes → Grows b c more others
+    → Grows a c (words ++ more) (bytes ++ others)
+grows-on a b c words bytes more others g h =
+    record {
+      kind = h .kind ∙ g .kind;
+      before = h .before ∙ g .before;
+      first = h .first ∙ g .first;
+      loaded = h .loaded ∙ ap (λ (l : List ℕ). l ++ more) (g .loaded) ∙ append-assoc (a .loaded) words more;
+      given = h .given ∙ ap (λ (l : List ℕ). l ++ others) (g .given) ∙ append-assoc (a .given) bytes others;
+    }
+
+begun-kind : (a : Account) (cs : List Call) → begun a cs .kind ≡ a .kind
+unfolding begun
+begun-kind a [] = refl
+begun-kind a (c ∷ cs) = by-test (λ (x : Account). x .kind ≡ a .kind) (empties (a .kind) c) (λ e. refl) (λ e. begun-kind a cs)
+
+stretch : (a : Account) (cs : List Call)
+    → Grows (begun a cs) (account a cs) (wordsSince (a .kind) (says a cs)) (bytesSince (a .kind) (says a cs))
+unfolding begun account says wordsSince bytesSince
+stretch a [] = stays a
+stretch a (c ∷ cs) =
+    let g = stretch a cs in
+    let kind : account a cs .kind ≡ a .kind = g .kind ∙ begun-kind a cs in
+    elim (true-or-false (empties (a .kind) c)) [
+      | inl e ↦ rw (e, emptied (account a cs) c (rw kind e), kind) (stays (opened (a .kind)))
+      | inr e ↦ rw e (grows-on (begun a cs) (account a cs) _ _ _ _ _ g (grows (account a cs) c (rw kind e)))
+    ]
+
+-- It began as the record then was.
+opens-fresh : (kind : ℕ) → opens (freshOf kind) ≡ opened kind
+unfolding ringFrom bytesOf
+opens-fresh kind = refl
+
+begun-opens : (q : Queue) (cs : List Call) → begun (opens (fittedOf q)) cs ≡ opens (startOf q cs)
+unfolding begun startOf
+begun-opens q [] = refl
+begun-opens q (c ∷ cs) =
+    by-tests (λ (x : Account) (y : Queue). x ≡ opens y) (empties (fittedOf q .ring .kind) c) (empties (q .ring .kind) c)
+    (ap (λ k. empties k c) (fitted-kind q))
+    (λ e. ap opened (fitted-kind q) ∙ sym (opens-fresh (q .ring .kind)))
+    (λ e. begun-opens q cs)
+
+pub start-fit : (q : Queue) (cs : List Call) → Fit (startOf q cs .ring)
+unfolding startOf
+start-fit q [] = fitted-fit q
+start-fit q (c ∷ cs) =
+    by-test (λ (x : Queue). Fit (x .ring)) (empties (q .ring .kind) c) (λ e. fresh-fit (q .ring .kind)) (λ e. start-fit q cs)
+
+-- So of the record: what its history tells is what its account has loaded and given behind what the record began with.
+pub stretch-of :
+    (q : Queue) → length (q .words) ≡ 8 → (cs : List Call)
+    → Grows (opens (startOf q cs)) (account (opens (fittedOf q)) cs) (loadedBy q cs) (givenBy q cs)
+stretch-of q long cs =
+    rw (← begun-opens q cs, told q long cs)
+    (subst (λ (k : ℕ). Grows (begun (opens (fittedOf q)) cs) (account (opens (fittedOf q)) cs) (wordsSince k (says (opens (fittedOf q)) cs))
+    (bytesSince k (says (opens (fittedOf q)) cs))) (fitted-kind q) (stretch (opens (fittedOf q)) cs))
