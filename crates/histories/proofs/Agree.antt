@@ -22,7 +22,7 @@ use Rattle.histories.specs.Calls.{read}
 use Rattle.histories.specs.Account.{Account, opened, counted, wholly, holds, nextByte, isFullBy, isEmptyBy}
 use Rattle.histories.specs.Account.{askedAtEnd, asksFor, comingWith, withLoaded, withGiven, withAsked}
 use Rattle.histories.specs.Opens.{ringFrom, heldWords, bytesLeft, opens}
-use Rattle.histories.proofs.Moves.{up-to-min, length-held, put-bytes, taken-bytes, not-full, put-fit, asked-fit, taken-fit}
+use Rattle.histories.proofs.Moves.{up-to-min, length-held, put-bytes, taken-bytes, not-full, put-fit, asked-fit, taken-kind, taken-fit}
 
 pub record Agree (q : Queue) (a : Account) : Type 0 where
   pub fit : Fit (q .ring)
@@ -143,8 +143,7 @@ module _ (q : Queue) (a : Account) (s : Agree q a) where
 
     pub agree-taken : Agree (withoutByte q control) (withGiven a (nextByte a) (asksFor a (read control)))
     agree-taken =
-        let kept : byteTaken (q .ring) control .kind ≡ q .ring .kind =
-        by-test (λ (x : Ring). x .kind ≡ q .ring .kind) (eqb (q .ring .taken) 3) (λ t. refl) (λ t. refl) in
+        let kept = taken-kind (q .ring) control in
         record {
           fit = taken-fit (q .ring) (s .fit) control some;
           long = s .long;

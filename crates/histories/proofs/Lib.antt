@@ -4,3 +4,4 @@ pub mod Agree
 pub mod Told
 pub mod Stretch
 pub mod Order
+pub mod Kept

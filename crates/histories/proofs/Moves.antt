@@ -109,6 +109,9 @@ module _ (r : Ring) (f : Fit r) where
         deep = f .deep;
       }
 
+pub taken-kind : (r : Ring) (control : ℕ) → byteTaken r control .kind ≡ r .kind
+taken-kind r control = by-test (λ (x : Ring). x .kind ≡ r .kind) (eqb (r .taken) 3) (λ t. refl) (λ t. refl)
+
 pub taken-fit : (r : Ring) → Fit r → (control : ℕ) → 0 < r .held → Fit (byteTaken r control)
 taken-fit r f control some =
     let d = depthOf (r .kind) in

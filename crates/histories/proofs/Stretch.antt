@@ -119,3 +119,12 @@ stretch-of q long cs =
     rw (← begun-opens q cs, told q long cs)
     (subst (λ (k : ℕ). Grows (begun (opens (fittedOf q)) cs) (account (opens (fittedOf q)) cs) (wordsSince k (says (opens (fittedOf q)) cs))
     (bytesSince k (says (opens (fittedOf q)) cs))) (fitted-kind q) (stretch (opens (fittedOf q)) cs))
+
+start-kind : (q : Queue) (cs : List Call) → startOf q cs .ring .kind ≡ q .ring .kind
+unfolding startOf
+start-kind q [] = fitted-kind q
+start-kind q (c ∷ cs) =
+    by-test (λ (x : Queue). x .ring .kind ≡ q .ring .kind) (empties (q .ring .kind) c) (λ e. refl) (λ e. start-kind q cs)
+
+pub account-kind : (q : Queue) → length (q .words) ≡ 8 → (cs : List Call) → account (opens (fittedOf q)) cs .kind ≡ q .ring .kind
+account-kind q long cs = stretch-of q long cs .kind ∙ start-kind q cs
