@@ -5,3 +5,5 @@ pub mod Told
 pub mod Stretch
 pub mod Order
 pub mod Kept
+pub mod Refused
+pub mod Counts

@@ -2,20 +2,20 @@
 use Prim.Native.Nat.{ℕ}
 use mathlib.Core.Bool.{true, false}
 use mathlib.Core.List.{List, [], _∷_, _++_, append-assoc, append-nil}
-use mathlib.Core.Logic.{inl, inr}
+use mathlib.Core.Logic.{inl, inr, ⊎-elim}
 use mathlib.Core.Path.{_≡_, refl, sym, _∙_, ap, subst}
 use lib.ListN.{length}
 use Rattle.buffers.specs.Pick.{pick}
 use Rattle.buffers.specs.Words.{bytesOf}
-use Rattle.buffers.proofs.Tests.{no}
+use Rattle.buffers.proofs.Tests.{or-split, or-neither, no}
 use Rattle.buffers.proofs.Split.{true-or-false}
 use Rattle.queues.specs.Queue.{freshOf, fittedOf, Fit}
 use Rattle.queues.specs.declared.Queue.{Queue}
-use Rattle.queues.proofs.Fits.{by-test, fresh-fit, fitted-fit, fitted-kind}
+use Rattle.queues.proofs.Fits.{by-test, fresh-fit, fitted-fit, fitted-is, fitted-kind}
 use Rattle.histories.specs.Calls.{Call, load, read, vertical, ask, horizontal, ends, answers}
 use Rattle.histories.specs.Account.{Account, Turn, opened, isFullBy, isEmptyBy, empties, asksFor, withLoaded, withGiven, withAsked}
 use Rattle.histories.specs.Account.{nextByte, turn, turned, account, says}
-use Rattle.histories.specs.Since.{wordIn, byteIn, wordsSince, bytesSince, loadedBy, givenBy, startOf}
+use Rattle.histories.specs.Since.{wordIn, byteIn, wordsSince, bytesSince, loadedBy, givenBy, emptied, startOf}
 use Rattle.histories.specs.Opens.{ringFrom, opens}
 use Rattle.histories.proofs.Told.{by-tests, told}
 
@@ -50,13 +50,13 @@ module _ (a : Account) where
   grows (horizontal g y) e = asked (asksFor a (horizontal g y))
   grows (ends g y) e = asked (asksFor a (ends g y))
 
-  emptied : (c : Call) → empties (a .kind) c ≡ true → turned a c .account ≡ opened (a .kind)
-  emptied (load w) e = absurd (no e)
-  emptied (read control) e = absurd (no e)
-  emptied (vertical raster) e = rw e
-  emptied (ask words) e = absurd (no e)
-  emptied (horizontal g y) e = absurd (no e)
-  emptied (ends g y) e = absurd (no e)
+  opened-anew : (c : Call) → empties (a .kind) c ≡ true → turned a c .account ≡ opened (a .kind)
+  opened-anew (load w) e = absurd (no e)
+  opened-anew (read control) e = absurd (no e)
+  opened-anew (vertical raster) e = rw e
+  opened-anew (ask words) e = absurd (no e)
+  opened-anew (horizontal g y) e = absurd (no e)
+  opened-anew (ends g y) e = absurd (no e)
 
 -- The account that the calls since the last emptying began with.
 unfoldable begun : Account → List Call → Account
@@ -87,7 +87,7 @@ stretch a (c ∷ cs) =
     let g = stretch a cs in
     let kind : account a cs .kind ≡ a .kind = g .kind ∙ begun-kind a cs in
     elim (true-or-false (empties (a .kind) c)) [
-      | inl e ↦ rw (e, emptied (account a cs) c (rw kind e), kind) (stays (opened (a .kind)))
+      | inl e ↦ rw (e, opened-anew (account a cs) c (rw kind e), kind) (stays (opened (a .kind)))
       | inr e ↦ rw e (grows-on (begun a cs) (account a cs) _ _ _ _ _ g (grows (account a cs) c (rw kind e)))
     ]
 
@@ -128,3 +128,26 @@ start-kind q (c ∷ cs) =
 
 pub account-kind : (q : Queue) → length (q .words) ≡ 8 → (cs : List Call) → account (opens (fittedOf q)) cs .kind ≡ q .ring .kind
 account-kind q long cs = stretch-of q long cs .kind ∙ start-kind q cs
+
+-- When the calls since began with a fresh record: an emptying among them, or a first record that is fresh or unfit.
+pub start-fresh : (q : Queue) → fittedOf q ≡ freshOf (q .ring .kind) → (cs : List Call) → startOf q cs ≡ freshOf (q .ring .kind)
+unfolding startOf
+start-fresh q e [] = e
+start-fresh q e (c ∷ cs) =
+    by-test (λ (x : Queue). x ≡ freshOf (q .ring .kind)) (empties (q .ring .kind) c) (λ t. refl) (λ t. start-fresh q e cs)
+
+pub start-emptied : (q : Queue) (cs : List Call) → emptied (q .ring .kind) cs ≡ true → startOf q cs ≡ freshOf (q .ring .kind)
+unfolding startOf emptied
+start-emptied q [] e = absurd (no e)
+start-emptied q (c ∷ cs) e =
+    ⊎-elim (λ t. rw t)
+    (λ t. by-test (λ (x : Queue). x ≡ freshOf (q .ring .kind)) (empties (q .ring .kind) c) (λ s. refl) (λ s. start-emptied q cs t))
+    (or-split (empties (q .ring .kind) c) (emptied (q .ring .kind) cs) e)
+
+-- And when with the first one as it is: that is fit, and nothing has emptied it.
+pub start-same : (q : Queue) → Fit (q .ring) → (cs : List Call) → emptied (q .ring .kind) cs ≡ false → startOf q cs ≡ q
+unfolding startOf emptied
+start-same q f [] e = fitted-is q f
+start-same q f (c ∷ cs) e =
+    let h = or-neither (empties (q .ring .kind) c) (emptied (q .ring .kind) cs) e in
+    rw (h .0) (start-same q f cs (h .1))

@@ -2,3 +2,4 @@ pub mod Calls
 pub mod Account
 pub mod Since
 pub mod Opens
+pub mod Refused

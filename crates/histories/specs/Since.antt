@@ -1,5 +1,6 @@
 -- What a history's own calls and answers tell since the last emptying: the words loaded, the bytes given, and the record it began with.
 use Prim.Native.Nat.{ℕ}
+use mathlib.Core.Bool.{Bool, false, _||_}
 use mathlib.Core.List.{List, [], _∷_, _++_}
 use lib.Dec.{eqb}
 use Rattle.buffers.specs.Pick.{pick}
@@ -40,6 +41,11 @@ loadedBy q calls = wordsSince (q .ring .kind) (answers q calls)
 
 abbrev pub givenBy : Queue → List Call → List ℕ
 givenBy q calls = bytesSince (q .ring .kind) (answers q calls)
+
+-- Has a history emptied a queue of this kind?
+unfoldable pub emptied : ℕ → List Call → Bool
+emptied kind [] = false
+emptied kind (c ∷ cs) = empties kind c || emptied kind cs
 
 -- The record that the calls since then began with: a fresh one, or where nothing has emptied it the first record, a fresh one if that is unfit.
 unfoldable pub startOf : Queue → List Call → Queue
