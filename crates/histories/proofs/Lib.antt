@@ -7,3 +7,6 @@ pub mod Order
 pub mod Kept
 pub mod Refused
 pub mod Counts
+pub mod Bytes
+pub mod Fed
+pub mod Live

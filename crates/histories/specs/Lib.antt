@@ -3,3 +3,4 @@ pub mod Account
 pub mod Since
 pub mod Opens
 pub mod Refused
+pub mod Live
