@@ -1,1 +1,4 @@
 pub mod Fits
+pub mod Counts
+pub mod Thin
+pub mod Unique

@@ -1,6 +1,6 @@
 -- A queue's record: its depth, a fresh one, when it is fit, and what it holds.
 use Prim.Native.Nat.{ℕ, _+_, _*_, _-_, _/_, _%_, _^_, _<_, _≤_}
-use mathlib.Core.Bool.{Bool, cond, _&&_, _||_}
+use mathlib.Core.Bool.{Bool, _&&_, _||_}
 use mathlib.Core.List.{List}
 use lib.Dec.{eqb, ltb, leb}
 use lib.ListN.{getD, replicate}
@@ -14,7 +14,7 @@ depthOf kind = pick (eqb kind 0) 8 4
 
 -- Sound asks for four when fresh.
 abbrev pub firstComing : ℕ → ℕ
-firstComing kind = 4 * cond (ltb 1 kind) 1 0
+firstComing kind = pick (ltb 1 kind) 4 0
 
 abbrev pub freshRing : ℕ → Ring
 freshRing kind = record { kind = kind; taken = 0; place = 0; held = 0; coming = firstComing kind; count = 0 }
@@ -55,7 +55,7 @@ isEmpty r = eqb (r .held) 0
 
 -- A queue asks while four words or more are still to come.
 abbrev pub asksBit : Ring → ℕ
-asksBit r = cond (leb 4 (r .coming)) 1 0
+asksBit r = pick (leb 4 (r .coming)) 1 0
 
 -- A place around the end of a ring.
 abbrev pub around : ℕ → ℕ → ℕ

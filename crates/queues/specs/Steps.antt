@@ -1,6 +1,6 @@
 -- What each call makes of a queue, and what it answers.
 use Prim.Native.Nat.{ℕ, _+_, _*_, _-_, _%_, _<_}
-use mathlib.Core.Bool.{cond, _&&_}
+use mathlib.Core.Bool.{_&&_}
 use lib.Dec.{eqb, ltb}
 use lib.ListN.{set}
 use Rattle.buffers.specs.Pick.{pick}
@@ -48,20 +48,20 @@ ringAsked r n =
 -- Video asks for four at the end of the words whose place control bits 5-4 choose, sound when its last byte is read.
 abbrev pub askedBy : Ring → ℕ → ℕ
 askedBy r control =
-    pick (eqb (r .kind) 0) (4 * cond (eqb (r .place % 4) (bits 5 4 control)) 1 0) (4 * cond (ltb 1 (r .kind) && eqb (r .held) 1) 1 0)
+    pick (eqb (r .kind) 0) (pick (eqb (r .place % 4) (bits 5 4 control)) 4 0) (pick (ltb 1 (r .kind) && eqb (r .held) 1) 4 0)
 
 -- A word holds its room until its last byte is read.
 abbrev pub wordDone : Ring → ℕ → Ring
 wordDone r control =
     ringAsked
-      (record { kind = r .kind; taken = 0; place = around (depthOf (r .kind)) (r .place + 1); held = r .held - 1; coming = r .coming; count = r .count })
-      (askedBy r control)
+    (record { kind = r .kind; taken = 0; place = around (depthOf (r .kind)) (r .place + 1); held = r .held - 1; coming = r .coming; count = r .count })
+    (askedBy r control)
 
 abbrev pub byteTaken : Ring → ℕ → Ring
 byteTaken r control =
     pick (eqb (r .taken) 3)
-      (wordDone r control)
-      (record { kind = r .kind; taken = r .taken + 1; place = r .place; held = r .held; coming = r .coming; count = r .count })
+    (wordDone r control)
+    (record { kind = r .kind; taken = r .taken + 1; place = r .place; held = r .held; coming = r .coming; count = r .count })
 
 abbrev pub withoutByte : Queue → ℕ → Queue
 withoutByte q control = record { words = q .words; ring = byteTaken (q .ring) control }

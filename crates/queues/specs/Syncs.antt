@@ -1,7 +1,8 @@
 -- What the sync of a raster asks for, from a register record's numbers as they stand.
-use Prim.Native.Nat.{ℕ, _*_, _-_, _%_}
-use mathlib.Core.Bool.{Bool, cond, _&&_}
+use Prim.Native.Nat.{ℕ, _-_, _%_}
+use mathlib.Core.Bool.{Bool, _&&_}
 use lib.Dec.{eqb, ltb, leb}
+use Rattle.buffers.specs.Pick.{pick}
 use Rattle.registers.specs.Setting.{settingOf, displayOn}
 use Rattle.registers.specs.declared.record.Registers.{Registers}
 use Rattle.registers.specs.declared.setting.Setting.{Setting}
@@ -16,8 +17,12 @@ isVideoAsk s y = displayOn s && eqb y (s .vds .0)
 
 -- Horizontal sync asks for four cursor words,
 unfoldable pub cursorAsk : Registers → ℕ → ℕ
-cursorAsk g y = 4 * cond (isCursorAsk (settingOf g) y) 1 0
+cursorAsk g y = pick (isCursorAsk (settingOf g) y) 4 0
 
 -- its end for eight video words.
 unfoldable pub videoAsk : Registers → ℕ → ℕ
-videoAsk g y = 8 * cond (isVideoAsk (settingOf g) y) 1 0
+videoAsk g y = pick (isVideoAsk (settingOf g) y) 8 0
+
+-- What both ask of a queue, by its kind.
+unfoldable pub syncAsk : Registers → ℕ → ℕ → ℕ
+syncAsk g kind y = pick (eqb kind 0) (videoAsk g y) (pick (eqb kind 1) (cursorAsk g y) 0)

@@ -3,6 +3,7 @@ use crate::Ring;
 ghost use mathlib.Core.Path.{_≡_};
 ghost use mathlib.Core.Bool.{Bool, false};
 ghost use Prim.Native.Nat.{_<_, _≤_, _+_};
+ghost use Rattle.buffers.specs.Pick.{pick};
 ghost use Rattle.queues.specs.Queue.{depthOf, firstComing, around, isFit, Fit, isFull, isEmpty, asksBit};
 ghost use Rattle.queues.specs.Steps.{behind, ringPut, upTo, askedBy, ringAsked, wordDone, byteTaken};
 
@@ -14,6 +15,16 @@ fn around(depth: u32, place: u32) -> u32
         return place;
     }
     place - depth
+}
+
+// So many words where a test holds, else none.
+pub(crate) fn words_if(test: bool, words: u32) -> u32
+    ensures { λ r. ⌜ r ≡ pick test words 0 ⌝ }
+{
+    if test {
+        return words;
+    }
+    0
 }
 
 // A sum up to a limit.
@@ -66,7 +77,10 @@ impl Ring {
     pub(crate) fn asks(self) -> u16
         ensures { λ r. ⌜ r ≡ asksBit self ⌝ }
     {
-        (4 <= self.coming) as u16
+        if 4 <= self.coming {
+            return 1;
+        }
+        0
     }
 
     // The place behind the last word held.
@@ -103,9 +117,9 @@ impl Ring {
         ensures { λ r. ⌜ r ≡ askedBy self control ⌝ }
     {
         if self.kind == 0 {
-            return 4 * ((self.place % 4 == control / 0x10 % 4) as u32);
+            return words_if(self.place % 4 == control / 0x10 % 4, 4);
         }
-        4 * (((1 < self.kind) & (self.held == 1)) as u32)
+        words_if((1 < self.kind) & (self.held == 1), 4)
     }
 
     // The word at the place is wholly read: its room is free again.

@@ -1,5 +1,6 @@
 // The chip's three queues: words go in singly and leave as bytes, low byte first, in the order they came.
 mod counted;
+pub mod lent;
 mod steps;
 pub mod syncs;
 

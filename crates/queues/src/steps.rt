@@ -3,6 +3,7 @@ use crate::Queue;
 use crate::Reply;
 use crate::Ring;
 use crate::Step;
+use crate::counted::words_if;
 use crate::syncs::cursor_ask;
 use crate::syncs::video_ask;
 use refusals::Refusal;
@@ -40,7 +41,7 @@ impl Queue {
             taken: 0,
             place: 0,
             held: 0,
-            coming: 4 * ((1 < kind) as u32),
+            coming: words_if(1 < kind, 4),
             count: 0,
         };
         Queue {

@@ -4,7 +4,9 @@ use mathlib.Core.Path.{sym, _∙_}
 use mathlib.Core.List.{List}
 use lib.IntN.{ℤ}
 use denote.Ref.{now}
-use Rattle.buffers.proofs.Coincide.{OneAnswer, OneState}
+use Rattle.buffers.proofs.Coincide.{OneAnswer, OneState, OneLent}
+use Rattle.queues.specs.Steps.{loadOf, readOf, verticalOf, askOf}
+use Rattle.queues.proofs.Unique.{one-lent}
 use Rattle.vombelishi.proofs.files.vom_read.Kinds as vom-read-kinds
 use Rattle.vombelishi.proofs.files.vom_read.Reads as vom-read-reads
 use Rattle.vombelishi.proofs.files.vom_copy.Kinds as vom-copy-kinds
@@ -25,6 +27,14 @@ use Rattle.vombelishi.proofs.pictures.vom_frame.Kinds as vom-frame-kind
 use Rattle.vombelishi.proofs.pictures.vom_frame.Reads as vom-frame-reads
 use Rattle.vombelishi.proofs.pictures.vom_raster.Kinds as vom-raster-kinds
 use Rattle.vombelishi.proofs.pictures.vom_raster.Reads as vom-raster-reads
+use Rattle.vombelishi.proofs.queued.vom_queue_load as vom-queue-load
+use Rattle.vombelishi.proofs.queued.vom_queue_read as vom-queue-read
+use Rattle.vombelishi.proofs.queued.vom_queue_vertical_sync as vom-queue-vertical-sync
+use Rattle.vombelishi.proofs.queued.vom_queue_ask as vom-queue-ask
+use Rattle.vombelishi.proofs.queued.vom_queue_fresh.Kinds as vom-queue-fresh-kinds
+use Rattle.vombelishi.proofs.queued.vom_queue_fresh.Reads as vom-queue-fresh-reads
+use Rattle.vombelishi.proofs.queued.vom_sync_ask.Kinds as vom-sync-ask-kinds
+use Rattle.vombelishi.proofs.queued.vom_sync_ask.Reads as vom-sync-ask-reads
 use Rattle.vombelishi.proofs.rasters.vom_raster_words.Kinds as vom-raster-words-kinds
 use Rattle.vombelishi.proofs.rasters.vom_raster_words.Reads as vom-raster-words-reads
 use Rattle.vombelishi.proofs.rasters.vom_marks.Kinds as vom-marks-kinds
@@ -93,3 +103,21 @@ one-vom-sound-pair κs a x y s t p q = (p .0 ∙ sym (q .0), p .1 ∙ sym (q .1)
 
 pub one-vom-text : OneState {A = List ℕ × ℕ} 3 vom-text-kinds.ps vom-text-kinds.r (λ κs s. (now (s .1 .0), now (s .1 .1 .0))) vom-text-reads.Post
 one-vom-text κs a x y s t p q = (p .0 ∙ sym (q .0), λ i. ((p .1 ∙ sym (q .1)) i, (p .2 ∙ sym (q .2)) i))
+
+pub one-vom-queue-fresh : OneAnswer 0 vom-queue-fresh-kinds.ps vom-queue-fresh-kinds.r vom-queue-fresh-reads.Post
+one-vom-queue-fresh κs a x y s t p q = p ∙ sym q
+
+pub one-vom-queue-load : OneLent vom-queue-load.ended (λ M 𝓤. vom-queue-load.clauses 𝓤) (λ κs s. now (s .0))
+one-vom-queue-load = one-lent loadOf
+
+pub one-vom-queue-read : OneLent vom-queue-read.ended (λ M 𝓤. vom-queue-read.clauses 𝓤) (λ κs s. now (s .0))
+one-vom-queue-read = one-lent readOf
+
+pub one-vom-queue-vertical-sync : OneLent vom-queue-vertical-sync.ended (λ M 𝓤. vom-queue-vertical-sync.clauses 𝓤) (λ κs s. now (s .0))
+one-vom-queue-vertical-sync = one-lent verticalOf
+
+pub one-vom-queue-ask : OneLent vom-queue-ask.ended (λ M 𝓤. vom-queue-ask.clauses 𝓤) (λ κs s. now (s .0))
+one-vom-queue-ask = one-lent askOf
+
+pub one-vom-sync-ask : OneState 3 vom-sync-ask-kinds.ps vom-sync-ask-kinds.r (λ κs s. now (s .1 .1 .1 .1 .0)) vom-sync-ask-reads.Post
+one-vom-sync-ask κs a x y s t p q = (p .0 ∙ sym (q .0), p .1 ∙ sym (q .1))

@@ -6,3 +6,4 @@ pub mod Pictures
 pub mod Sounds
 pub mod Files
 pub mod Texts
+pub mod Queued

@@ -5,6 +5,7 @@ pub mod levels;
 pub mod loads;
 pub mod pictures;
 mod put;
+pub mod queued;
 pub mod rasters;
 mod record;
 pub mod settings;

@@ -2,16 +2,22 @@
 //! It is plain and slow on purpose: each function is one of the paper's sentences.
 
 pub mod address;
+pub mod bench;
 pub mod cell;
 pub mod colour;
 pub mod drawn;
 pub mod frame;
 pub mod grey;
+pub mod live;
 pub mod load;
 pub mod marks;
 pub mod needed;
+pub mod parts;
 pub mod pin;
 pub mod plate;
+pub mod queue;
+pub mod queue_calls;
+pub mod queue_sync;
 pub mod raster;
 pub mod raster_words;
 pub mod record;
@@ -22,4 +28,10 @@ pub mod sound_judge;
 pub mod text;
 
 #[cfg(test)]
+mod history_tests;
+#[cfg(test)]
+mod live_tests;
+#[cfg(test)]
 mod paper_tests;
+#[cfg(test)]
+mod queue_tests;

@@ -13,15 +13,15 @@ use crate::setting::{self, pixel_rate, Setting};
 use crate::sound;
 use crate::text::text;
 
-fn word(address: u32, data: u32) -> u32 {
+pub fn word(address: u32, data: u32) -> u32 {
     address << 24 | data
 }
 
-fn value(address: u32, v: u32) -> u32 {
+pub fn value(address: u32, v: u32) -> u32 {
     word(address, v << 14)
 }
 
-fn small_registers() -> Vec<u32> {
+pub fn small_registers() -> Vec<u32> {
     let horizontal = [15, 1, 3, 2, 6, 11];
     let vertical = [5, 0, 1, 2, 3, 4];
     let mut words = vec![word(CONTROL, 0xB), word(BORDER, 0xF00)];
@@ -33,7 +33,7 @@ fn small_registers() -> Vec<u32> {
 
 const SMALL_VIDEO: [u32; 1] = [0x7654_3210];
 
-fn small() -> Record {
+pub fn small() -> Record {
     load(&Record::fresh(), &small_registers()).unwrap()
 }
 
@@ -141,7 +141,7 @@ fn case_13_display_off() {
     assert!(frame(&off, &[], &[], 1000).is_ok());
 }
 
-fn small_plate() -> Vec<u8> {
+pub fn small_plate() -> Vec<u8> {
     plate::write(&small_registers(), &SMALL_VIDEO, &[], &[], 140).unwrap()
 }
 

@@ -21,6 +21,8 @@ pub const RASTER: u32 = 12;
 pub const SHORT: u32 = 13;
 pub const PLATE_FILE: u32 = 14;
 pub const TOO_LARGE: u32 = 15;
+pub const FULL: u32 = 16;
+pub const EMPTY: u32 = 17;
 
 /// A refusal with detail 0.
 pub fn refusal(number: u32) -> Refusal {

@@ -1,0 +1,74 @@
+-- A full queue refuses; else the word stands behind those held, and the counts follow.
+use Rattle.queues.specs.Steps.{loadFit}
+use mathlib.Core.Path.{sym, _∙_}
+use native.Mathlib.Omega.{arith}
+use Rattle.queues.proofs.Counts.{behind-lt}
+use borrow.Author.Needs.{needs}
+use Rattle.queues.proofs.Queue.load_fit.Statement.{statement}
+use Rattle.queues.proofs.Queue.load_fit.Tie as tie
+use Rattle.queues.proofs.Queue.load_fit.Reads as reads
+use Rattle.queues.proofs.Queue.load_fit.Lts as lts
+use Rattle.queues.proofs.Ring.behind.Reads as behind-reads
+use Rattle.queues.proofs.Ring.is_full.Reads as is-full-reads
+use Rattle.queues.proofs.Ring.put.Reads as put-reads
+use Rattle.queues.proofs.steps.answered.Reads as answered-reads
+use Rattle.refusals.proofs.Refusal.number.Reads as number-reads
+
+is-full-requires : tie.Need-is-full-requires
+is-full-requires c κs = search needs
+
+number-requires : tie.Need-number-requires
+number-requires c κs = search needs
+
+answered-requires : tie.Need-answered-requires
+answered-requires c κs = search needs
+
+returns : tie.Need-returns
+unfolding loadFit
+returns c = rw (c .answered .ensures, c .before .number .ensures, ← c .before .before .before .is-full .ensures, c .before .before .if1 .taken)
+
+behind-requires : tie.Need-behind-requires
+behind-requires c κs = search needs
+
+cast-at : tie.Need-cast-at
+cast-at c = search needs
+
+mul-self : tie.Need-mul-self
+mul-self c = search needs
+
+element-write-self : tie.Need-element-write-self
+element-write-self c =
+    rw (c .behind .ensures) (behind-lt _ (c .before .before .before .before .pre) (sym (c .before .before .is-full .ensures) ∙ c .before .if1 .left))
+
+put-requires : tie.Need-put-requires
+put-requires c κs = (c .before .before .before .before .pre, sym (c .before .before .is-full .ensures) ∙ c .before .if1 .left)
+
+answered-requires-2 : tie.Need-answered-requires-2
+answered-requires-2 c κs = search needs
+
+returns-2 : tie.Need-returns-2
+unfolding loadFit
+returns-2 c =
+    rw (
+      c .answered2 .ensures,
+      c .before .put .ensures,
+      c .before .before .behind .ensures,
+      ← c .before .before .before .before .is-full .ensures,
+      c .before .before .before .if1 .left,
+    )
+
+pub load-fit-spec : {M : Type 1} → statement M
+load-fit-spec =
+    tie.close
+    (tie.spec
+    is-full-requires
+    number-requires
+    answered-requires
+    returns
+    behind-requires
+    cast-at
+    mul-self
+    element-write-self
+    put-requires
+    answered-requires-2
+    returns-2)
