@@ -17,19 +17,20 @@ use Rattle.queues.specs.Queue.{depthOf, around, freshOf, isFull, isEmpty, Fit, 
 use Rattle.queues.specs.Steps.{behind, askedBy, byteTaken, withWord, withoutByte, withAsk}
 use Rattle.queues.specs.declared.Queue.{Queue}
 use Rattle.queues.specs.declared.Ring.{Ring}
+use Rattle.queues.proofs.Counts.{has-room, some-held}
 use Rattle.queues.proofs.Fits.{by-test, fresh-fit}
 use Rattle.histories.specs.Calls.{read}
-use Rattle.histories.specs.Account.{Account, opened, counted, wholly, holds, nextByte, isFullBy, isEmptyBy}
+use Rattle.histories.specs.Account.{Account, opened, countOf, wholly, holds, nextByte, isFullBy, isEmptyBy}
 use Rattle.histories.specs.Account.{askedAtEnd, asksFor, comingWith, withLoaded, withGiven, withAsked}
 use Rattle.histories.specs.Opens.{ringFrom, heldWords, bytesLeft, opens}
-use Rattle.histories.proofs.Moves.{up-to-min, length-held, put-bytes, taken-bytes, not-full, put-fit, asked-fit, taken-kind, taken-fit}
+use Rattle.histories.proofs.Moves.{up-to-min, length-held, put-bytes, taken-bytes, put-fit, asked-fit, taken-kind, taken-fit}
 
 pub record Agree (q : Queue) (a : Account) : Type 0 where
   pub fit : Fit (q .ring)
   pub long : length (q .words) ≡ 8
   pub kind : q .ring .kind ≡ a .kind
   pub order : a .given ++ bytesLeft q ≡ bytesOf (a .loaded)
-  pub count : q .ring .count ≡ counted a
+  pub count : q .ring .count ≡ countOf a
   pub coming : q .ring .coming ≡ a .coming
   pub place : q .ring .place ≡ (a .first + wholly a) % depthOf (q .ring .kind)
 
@@ -91,7 +92,7 @@ module _ (q : Queue) (a : Account) (s : Agree q a) where
         long = length-set (q .words) (behind (q .ring)) w ∙ s .long;
         kind = s .kind;
         order =
-            ap (λ (l : List ℕ). a .given ++ l) (put-bytes q (s .fit) w (s .long) (not-full (q .ring) (s .fit) e))
+            ap (λ (l : List ℕ). a .given ++ l) (put-bytes q (s .fit) w (s .long) (has-room (q .ring) e))
             ∙ sym (append-assoc (a .given) (bytesLeft q) (bytesOf (w ∷ [])))
             ∙ ap (λ (l : List ℕ). l ++ bytesOf (w ∷ [])) (s .order)
             ∙ sym (bytes-append (a .loaded) (w ∷ []));
@@ -114,7 +115,7 @@ module _ (q : Queue) (a : Account) (s : Agree q a) where
 
   module _ (control : ℕ) (e : isEmpty (q .ring) ≡ false) where
     some : 0 < q .ring .held
-    some = let h = eqb-false (q .ring .held) 0 e in omega arith
+    some = some-held (q .ring) e
 
     taken-coming : byteTaken (q .ring) control .coming ≡ comingWith a (asksFor a (read control))
     taken-coming =
@@ -153,7 +154,7 @@ module _ (q : Queue) (a : Account) (s : Agree q a) where
               ∙ ap (λ n. a .given ++ n ∷ bytesLeft (withoutByte q control)) (next-is some)
               ∙ ap (λ (l : List ℕ). a .given ++ l) (sym (taken-bytes q (s .fit) control some))
               ∙ s .order;
-          count = by-test (λ (x : Ring). x .count ≡ counted a) (eqb (q .ring .taken) 3) (λ t. s .count) (λ t. s .count);
+          count = by-test (λ (x : Ring). x .count ≡ countOf a) (eqb (q .ring .taken) 3) (λ t. s .count) (λ t. s .count);
           coming = taken-coming;
           place =
               taken-place

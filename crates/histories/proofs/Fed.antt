@@ -10,19 +10,19 @@ use Rattle.buffers.proofs.Words.{length-bytes, bytes-append, bytes-at, below-ta
 use Rattle.registers.specs.inner.Accepted.{Depth}
 use Rattle.queues.specs.declared.Queue.{Queue}
 use Rattle.cells.specs.Pixel.{pixel}
-use Rattle.histories.specs.Calls.{Call}
+use Rattle.histories.specs.Calls.{QueueCall}
 use Rattle.histories.specs.Since.{loadedBy, givenBy}
 use Rattle.histories.specs.Live.{Fed, byteUsed, pixelRead, wordsRead}
 use Rattle.histories.proofs.Bytes.{pixel-at, below-bytes, pixel-words-read}
-use Rattle.histories.proofs.Order.{fresh-order}
+use Rattle.histories.proofs.Order.{fresh-in-order}
 
-module _ (q : Queue) (long : length (q .words) ≡ 8) (cs : List Call) (frame : List ℕ) (fed : Fed frame q cs) where
+module _ (q : Queue) (long : length (q .words) ≡ 8) (cs : List QueueCall) (frame : List ℕ) (fed : Fed frame q cs) where
   pub bytes-read : givenBy q cs ≡ take (length (givenBy q cs)) (bytesOf (frame ++ fed .filler))
   bytes-read =
       let n = length (givenBy q cs) in
       let all = frame ++ fed .filler in
       let rest = drop (length (loadedBy q cs)) all in
-      let first = fresh-order q long cs (fed .since) in
+      let first = fresh-in-order q long cs (fed .since) in
       let enough : n ≤ length (bytesOf (loadedBy q cs)) = omega (arith, ap length first, length-take n (bytesOf (loadedBy q cs))) in
       let whole : all ≡ loadedBy q cs ++ rest =
       sym (take-append-drop (length (loadedBy q cs)) all) ∙ ap (λ (l : List ℕ). l ++ rest) (sym (fed .own)) in

@@ -4,7 +4,7 @@ use mathlib.Core.Bool.{true, false, not}
 use mathlib.Core.List.{List}
 use mathlib.Core.Path.{_≡_, refl, sym, _∙_, ap}
 use native.Mathlib.Omega.{arith}
-use borrow.Author.Tests.{eqb-false, not-true}
+use borrow.Author.Tests.{not-true}
 use lib.Dec.{eqb, ltb}
 use lib.ListN.{length}
 use Rattle.buffers.proofs.Tests.{and-split, no}
@@ -13,15 +13,16 @@ use Rattle.queues.specs.Steps.{stepOf, emptiedOf, withAsk, withWord, withoutByt
 use Rattle.queues.specs.declared.Queue.{Queue}
 use Rattle.queues.specs.declared.Reply.{Reply}
 use Rattle.queues.specs.declared.Step.{Step}
+use Rattle.queues.proofs.Counts.{some-held}
 use Rattle.queues.proofs.Fits.{by-test, fresh-fit, fitted-fit, fitted-kind}
-use Rattle.histories.specs.Calls.{Call, load, read, vertical, ask, horizontal, ends, made, after}
+use Rattle.histories.specs.Calls.{QueueCall, load, read, vertical, ask, horizontal, ends, made, after}
 use Rattle.histories.specs.Account.{Account, Turn, isFullBy, isEmptyBy, empties, asksFor, nextByte}
 use Rattle.histories.specs.Account.{withLoaded, withGiven, comingWith, turn, turned, account}
 use Rattle.histories.specs.Since.{wordIn}
 use Rattle.histories.specs.Opens.{opens}
 use Rattle.histories.proofs.Moves.{put-fit, taken-kind, taken-fit, asked-fit}
 use Rattle.histories.proofs.Agree.{depth-is}
-use Rattle.histories.proofs.Told.{agree, same}
+use Rattle.histories.proofs.Told.{agrees, same-turn}
 use Rattle.histories.proofs.Stretch.{account-kind}
 
 -- Of its kind, fit, its count and whether it asks: what every answer carries is of the record as the call leaves it.
@@ -55,9 +56,8 @@ module _ (q : Queue) where
       by-test (Leaves (q .ring .kind)) (isEmpty (f .ring))
       (λ e. step-leaves f 17 0 (q .ring .kind) (fitted-kind q) (fitted-fit q))
       (λ e.
-      let h = eqb-false (f .ring .held) 0 e in
       step-leaves (withoutByte f control) 0 (frontByte f) (q .ring .kind) (taken-kind (f .ring) control ∙ fitted-kind q)
-      (taken-fit (f .ring) (fitted-fit q) control (omega arith)))
+      (taken-fit (f .ring) (fitted-fit q) control (some-held (f .ring) e)))
 
   vertical-leaves : (raster : ℕ) → Leaves (q .ring .kind) (verticalOf q raster)
   unfolding verticalOf
@@ -74,7 +74,7 @@ module _ (q : Queue) where
       step-leaves (withAsk (fittedOf q) words) 0 0 (q .ring .kind) (fitted-kind q) (asked-fit (fittedOf q .ring) (fitted-fit q) words)
 
   -- Any call, on any record.
-  pub leaves : (c : Call) → Leaves (q .ring .kind) (made q c)
+  pub leaves : (c : QueueCall) → Leaves (q .ring .kind) (made q c)
   unfolding horizontalOf endsOf
   leaves (load w) = load-leaves w
   leaves (read control) = read-leaves control
@@ -83,14 +83,14 @@ module _ (q : Queue) where
   leaves (horizontal g y) = ask-leaves _
   leaves (ends g y) = ask-leaves _
 
-  pub fit-kept : (c : Call) → Fit (made q c .queue .ring)
+  pub fit-kept : (c : QueueCall) → Fit (made q c .queue .ring)
   fit-kept c = leaves c .fit
 
-  pub coming-most : (c : Call) → made q c .queue .ring .coming ≤ depthOf (q .ring .kind)
+  pub coming-most : (c : QueueCall) → made q c .queue .ring .coming ≤ depthOf (q .ring .kind)
   coming-most c = omega (arith, leaves c .fit .coming, ap depthOf (leaves c .kind))
 
   -- An emptying leaves a fresh record, with nothing to come.
-  pub emptied-fresh : (c : Call) → empties (q .ring .kind) c ≡ true → made q c .queue ≡ freshOf (q .ring .kind)
+  pub emptied-fresh : (c : QueueCall) → empties (q .ring .kind) c ≡ true → made q c .queue ≡ freshOf (q .ring .kind)
   unfolding verticalOf
   emptied-fresh (load w) e = absurd (no e)
   emptied-fresh (read control) e = absurd (no e)
@@ -102,7 +102,7 @@ module _ (q : Queue) where
   emptied-fresh (ends g y) e = absurd (no e)
 
 -- What a call asks for is added up to the depth; a word loaded takes one off.
-comes : (a : Account) (c : Call) → a .coming ≤ depthOf (a .kind) → empties (a .kind) c ≡ false
+comes : (a : Account) (c : QueueCall) → a .coming ≤ depthOf (a .kind) → empties (a .kind) c ≡ false
     → turned a c .account .coming ≡ comingWith a (asksFor a c) - length (wordIn c (turned a c .reply .number))
 comes a (load w) h e =
     by-test (λ (t : Turn). t .account .coming ≡ comingWith a 0 - length (wordIn (load w) (t .reply .number))) (isFullBy a)
@@ -116,7 +116,7 @@ comes a (horizontal g y) h e = omega arith
 comes a (ends g y) h e = omega arith
 
 -- After any history.
-module _ (q : Queue) (long : length (q .words) ≡ 8) (cs : List Call) (c : Call) where
+module _ (q : Queue) (long : length (q .words) ≡ 8) (cs : List QueueCall) (c : QueueCall) where
   pub coming-rule :
       empties (q .ring .kind) c ≡ false
       → made (after q cs) c .queue .ring .coming
@@ -124,8 +124,8 @@ module _ (q : Queue) (long : length (q .words) ≡ 8) (cs : List Call) (c : Call
       - length (wordIn c (made (after q cs) c .reply .number))
   coming-rule e =
       let a = account (opens (fittedOf q)) cs in
-      let g = agree q long cs in
-      let s = same q long cs c in
+      let g = agrees q long cs in
+      let s = same-turn q long cs c in
       let kind = account-kind q long cs in
       let most : a .coming ≤ depthOf (a .kind) = omega (arith, g .fit .coming, g .coming, depth-is (fittedOf (after q cs)) a g) in
       s .agree .coming

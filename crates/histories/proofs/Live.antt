@@ -31,7 +31,7 @@ use Rattle.cells.proofs.PixelPlaces.{fills-byte}
 use Rattle.cells.proofs.Pictures.{given-picture}
 use Rattle.cells.proofs.Regions.{within-true, true-within, display-inside, inside-display, display-on, code-five, plain-five}
 use Rattle.frame.specs.Frame.{frameCell}
-use Rattle.histories.specs.Calls.{Call}
+use Rattle.histories.specs.Calls.{QueueCall}
 use Rattle.histories.specs.Since.{givenBy}
 use Rattle.histories.specs.Live.{Fed, byteUsed, pixelRead, cursorPosition, wordsRead}
 use Rattle.histories.proofs.Bytes.{pair-pixel}
@@ -165,7 +165,7 @@ module _ (g : Registers) (s : Setting) (video cursor : List ℕ) (p : pictureTol
 
   -- The logical pixel of a display position is the d bits of the byte it uses, of those read.
   pub display-live :
-      (q : Queue) → length (q .words) ≡ 8 → (cs : List Call) → Fed video q cs → (x y : ℕ) → inDisplay s x y ≡ true
+      (q : Queue) → length (q .words) ≡ 8 → (cs : List QueueCall) → Fed video q cs → (x y : ℕ) → inDisplay s x y ≡ true
       → byteUsed (s .depth) (position s x y) < length (givenBy q cs)
       → logical s video x y ≡ pixelRead (givenBy q cs) (s .depth) (position s x y)
   display-live q long cs fed x y e h =
@@ -173,14 +173,14 @@ module _ (g : Registers) (s : Setting) (video cursor : List ℕ) (p : pictureTol
 
   -- The pair of a cursor position is the two bits of the byte it uses.
   pub cursor-live :
-      (q : Queue) → length (q .words) ≡ 8 → (cs : List Call) → Fed cursor q cs → (x y : ℕ) → inCursor s x y ≡ true
+      (q : Queue) → length (q .words) ≡ 8 → (cs : List QueueCall) → Fed cursor q cs → (x y : ℕ) → inCursor s x y ≡ true
       → byteUsed 2 (cursorPosition s x y) < length (givenBy q cs)
       → cursorPair s cursor y (x - s .cx .0) ≡ pixelRead (givenBy q cs) 2 (cursorPosition s x y)
   cursor-live q long cs fed x y e h =
       pair-is cursor x y e ∙ pixel-read q long cs cursor fed 2 (cursorPosition s x y) two h (own-cursor x y e)
 
-  module _ (q : Queue) (long : length (q .words) ≡ 8) (cs : List Call) (fed : Fed video q cs)
-      (r : Queue) (wide : length (r .words) ≡ 8) (ds : List Call) (drawn : Fed cursor r ds) where
+  module _ (q : Queue) (long : length (q .words) ≡ 8) (cs : List QueueCall) (fed : Fed video q cs)
+      (r : Queue) (wide : length (r .words) ≡ 8) (ds : List QueueCall) (drawn : Fed cursor r ds) where
     -- What the bytes read so far show at a position whose bytes are read is the frame's cell.
     pub cell-live : (x y : ℕ)
         → (inDisplay s x y ≡ true → byteUsed (s .depth) (position s x y) < length (givenBy q cs))

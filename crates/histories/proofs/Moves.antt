@@ -5,20 +5,20 @@ use mathlib.Core.List.{List, [], _∷_, _++_}
 use mathlib.Core.Path.{_≡_, refl, sym, _∙_, ap}
 use native.Mathlib.Numerals.{add-one}
 use native.Mathlib.Omega.{arith}
-use borrow.Author.Tests.{ltb-true, ltb-false, leb-false, eqb-true, eqb-false}
-use lib.Dec.{eqb, ltb, leb}
+use borrow.Author.Tests.{ltb-true, ltb-false, eqb-true, eqb-false}
+use lib.Dec.{eqb, ltb}
 use lib.ListN.{length, drop, getD}
 use lib.Seq.{drop-cons, drop-append-le}
 use Rattle.buffers.specs.Words.{bytesOf}
-use Rattle.buffers.proofs.Tests.{or-neither}
 use Rattle.buffers.proofs.Words.{length-bytes, bytes-append, bytes-at}
 use Rattle.queues.specs.Queue.{depthOf, around, isFull, Fit, frontByte}
 use Rattle.queues.specs.Steps.{ringPut, upTo, ringAsked, askedBy, byteTaken, withWord, withoutByte}
 use Rattle.queues.specs.declared.Queue.{Queue}
 use Rattle.queues.specs.declared.Ring.{Ring}
+use Rattle.queues.proofs.Counts.{around-lt, has-room}
 use Rattle.queues.proofs.Fits.{by-test}
 use Rattle.histories.specs.Opens.{ringFrom, heldWords, bytesLeft}
-use Rattle.histories.proofs.Rings.{around-lt, ring-put, length-ring}
+use Rattle.histories.proofs.Rings.{ring-put, length-ring}
 
 -- The bytes still to read, of a record's words and numbers.
 abbrev pub bytesIn : List ℕ → Ring → List ℕ
@@ -81,12 +81,9 @@ module _ (q : Queue) (f : Fit (q .ring)) where
       ∙ ap (λ (l : List ℕ). front (drop (r .taken + 1) (bytesOf l))) (sym held))
 
 module _ (r : Ring) (f : Fit r) where
-  pub not-full : isFull r ≡ false → r .held < depthOf (r .kind)
-  not-full e = leb-false (depthOf (r .kind)) (r .held) (or-neither (leb (depthOf (r .kind)) (r .held)) (eqb (r .count) (2 ^ 64 - 1)) e .0)
-
   pub put-fit : isFull r ≡ false → Fit (ringPut r)
   put-fit e =
-      let room = not-full e in
+      let room = has-room r e in
       record {
         place = f .place;
         held = omega arith;

@@ -8,10 +8,10 @@ use Rattle.buffers.specs.Words.{bytesOf}
 use Rattle.buffers.proofs.Words.{bytes-append}
 use Rattle.queues.specs.Queue.{freshOf, fittedOf}
 use Rattle.queues.specs.declared.Queue.{Queue}
-use Rattle.histories.specs.Calls.{Call, after}
+use Rattle.histories.specs.Calls.{QueueCall, after}
 use Rattle.histories.specs.Since.{loadedBy, givenBy, startOf}
 use Rattle.histories.specs.Opens.{ringFrom, heldWords, bytesLeft}
-use Rattle.histories.proofs.Told.{agree}
+use Rattle.histories.proofs.Told.{agrees}
 use Rattle.histories.proofs.Stretch.{stretch-of}
 
 behind-front : (xs ys zs : List ℕ) → xs ++ ys ≡ xs ++ zs → ys ≡ zs
@@ -21,10 +21,10 @@ fresh-left : (kind : ℕ) → bytesLeft (freshOf kind) ≡ []
 unfolding ringFrom bytesOf
 fresh-left kind = refl
 
-module _ (q : Queue) (long : length (q .words) ≡ 8) (cs : List Call) where
+module _ (q : Queue) (long : length (q .words) ≡ 8) (cs : List QueueCall) where
   -- What was given and what is left to read are together what was left at the start and what was loaded since: nothing is lost, nothing added.
-  pub kept : givenBy q cs ++ bytesLeft (fittedOf (after q cs)) ≡ bytesLeft (startOf q cs) ++ bytesOf (loadedBy q cs)
-  kept =
+  pub nothing-lost : givenBy q cs ++ bytesLeft (fittedOf (after q cs)) ≡ bytesLeft (startOf q cs) ++ bytesOf (loadedBy q cs)
+  nothing-lost =
       let s = startOf q cs in
       let t = s .ring .taken in
       let held = bytesOf (heldWords s) in
@@ -34,18 +34,18 @@ module _ (q : Queue) (long : length (q .words) ≡ 8) (cs : List Call) where
       behind-front (take t held) (givenBy q cs ++ left) (drop t held ++ more)
       (sym (append-assoc (take t held) (givenBy q cs) left)
       ∙ ap (λ (l : List ℕ). l ++ left) (sym (g .given))
-      ∙ agree q long cs .order
+      ∙ agrees q long cs .order
       ∙ ap bytesOf (g .loaded)
       ∙ bytes-append (heldWords s) (loadedBy q cs)
       ∙ ap (λ (l : List ℕ). l ++ more) (sym (take-append-drop t held))
       ∙ append-assoc (take t held) (drop t held) more)
 
-  pub in-order : givenBy q cs ≡ take (length (givenBy q cs)) (bytesLeft (startOf q cs) ++ bytesOf (loadedBy q cs))
-  in-order = sym (take-append-seam (givenBy q cs) (bytesLeft (fittedOf (after q cs)))) ∙ ap (take (length (givenBy q cs))) kept
+  pub bytes-in-order : givenBy q cs ≡ take (length (givenBy q cs)) (bytesLeft (startOf q cs) ++ bytesOf (loadedBy q cs))
+  bytes-in-order = sym (take-append-seam (givenBy q cs) (bytesLeft (fittedOf (after q cs)))) ∙ ap (take (length (givenBy q cs))) nothing-lost
 
   -- Since an emptying, or from a record that is fresh or unfit.
-  pub fresh-order : startOf q cs ≡ freshOf (q .ring .kind) → givenBy q cs ≡ take (length (givenBy q cs)) (bytesOf (loadedBy q cs))
-  fresh-order e =
+  pub fresh-in-order : startOf q cs ≡ freshOf (q .ring .kind) → givenBy q cs ≡ take (length (givenBy q cs)) (bytesOf (loadedBy q cs))
+  fresh-in-order e =
       let n = length (givenBy q cs) in
       let more = bytesOf (loadedBy q cs) in
-      in-order ∙ ap (λ (x : Queue). take n (bytesLeft x ++ more)) e ∙ ap (λ (l : List ℕ). take n (l ++ more)) (fresh-left (q .ring .kind))
+      bytes-in-order ∙ ap (λ (x : Queue). take n (bytesLeft x ++ more)) e ∙ ap (λ (l : List ℕ). take n (l ++ more)) (fresh-left (q .ring .kind))

@@ -13,7 +13,7 @@ use Rattle.queues.specs.Steps.{loadFit, readFit, loadOf, readOf, verticalOf, as
 use Rattle.queues.specs.declared.Queue.{Queue}
 use Rattle.queues.specs.declared.Step.{Step}
 use Rattle.queues.proofs.Fits.{fitted-fit, fitted-kind}
-use Rattle.histories.specs.Calls.{Call, load, read, vertical, ask, horizontal, ends, made}
+use Rattle.histories.specs.Calls.{QueueCall, load, read, vertical, ask, horizontal, ends, made}
 use Rattle.histories.specs.Refused.{refuses, refusalOf}
 use Rattle.histories.proofs.Told.{by-tests}
 
@@ -23,7 +23,7 @@ exactly true n h = (λ e. refl, λ e. refl)
 exactly false n h = (λ e. absurd (h (sym e)), λ e. cc)
 
 module _ (q : Queue) where
-  pub number-told : (c : Call) → made q c .reply .number ≡ pick (refuses q c) (refusalOf c) 0
+  pub number-told : (c : QueueCall) → made q c .reply .number ≡ pick (refuses q c) (refusalOf c) 0
   unfolding loadOf loadFit readOf readFit verticalOf askOf horizontalOf endsOf
   number-told (load w) = by-tests (λ (s : Step) (n : ℕ). s .reply .number ≡ n) (isFull (fittedOf q .ring)) _ refl (λ e. refl) (λ e. refl)
   number-told (read control) = by-tests (λ (s : Step) (n : ℕ). s .reply .number ≡ n) (isEmpty (fittedOf q .ring)) _ refl (λ e. refl) (λ e. refl)
@@ -32,7 +32,7 @@ module _ (q : Queue) where
   number-told (horizontal g y) = refl
   number-told (ends g y) = refl
 
-  pub refused-unchanged : (c : Call) → refuses q c ≡ true → made q c .queue ≡ fittedOf q
+  pub refused-unchanged : (c : QueueCall) → refuses q c ≡ true → made q c .queue ≡ fittedOf q
   unfolding loadOf loadFit readOf readFit
   refused-unchanged (load w) e = rw e
   refused-unchanged (read control) e = rw e

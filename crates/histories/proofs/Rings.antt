@@ -1,5 +1,5 @@
 -- A ring read word by word: places around its end, and a word put behind the last one held.
-use Prim.Native.Nat.{ℕ, zero, suc, _+_, _*_, _-_, _<_, _≤_}
+use Prim.Native.Nat.{ℕ, zero, suc, _+_, _-_, _<_, _≤_}
 use mathlib.Core.List.{List, [], _∷_, _++_}
 use mathlib.Core.Logic.{_≢_, inl, inr}
 use mathlib.Core.Path.{_≡_, refl, sym, _∙_, ap}
@@ -9,6 +9,7 @@ use lib.ListN.{length, set, getD}
 use lib.Seq.{getD-set-same, getD-set-other}
 use Rattle.buffers.proofs.Split.{lt-or-le}
 use Rattle.queues.specs.Queue.{around}
+use Rattle.queues.proofs.Counts.{around-lt}
 use Rattle.histories.specs.Opens.{ringFrom}
 
 module _ (d : ℕ) where
@@ -17,9 +18,6 @@ module _ (d : ℕ) where
 
   around-high : (n : ℕ) → d ≤ n → around d n ≡ n - d
   around-high n h = rw (le-ltb n d h)
-
-  pub around-lt : (n : ℕ) → n < 2 * d → around d n < d
-  around-lt n h = elim (lt-or-le n d) [ inl l ↦ omega (arith, around-low n l) | inr g ↦ omega (arith, around-high n g) ]
 
   around-next : (p n : ℕ) → p < d → suc n < d → around d (around d (p + 1) + n) ≡ around d (p + suc n)
   around-next p n h k = elim (lt-or-le (p + 1) d) [
@@ -47,7 +45,7 @@ module _ (d : ℕ) where
       rw (e, around-low p h, getD-set-same words p w 0 (omega arith))
   ring-put words w p (suc n) long h k =
       rw (getD-set-other words (around d (p + suc n)) p w 0 (around-other p n h k), ← around-next p n h k)
-      (ap (λ (l : List ℕ). getD words p 0 ∷ l) (ring-put words w (around d (p + 1)) n long (around-lt (p + 1) (omega arith)) (omega arith)))
+      (ap (λ (l : List ℕ). getD words p 0 ∷ l) (ring-put words w (around d (p + 1)) n long (around-lt d (p + 1) (omega arith)) (omega arith)))
 
   pub length-ring : (words : List ℕ) (p n : ℕ) → length (ringFrom words d p n) ≡ n
   unfolding ringFrom

@@ -12,9 +12,9 @@ use Rattle.buffers.proofs.Split.{true-or-false}
 use Rattle.queues.specs.Queue.{freshOf, fittedOf, Fit}
 use Rattle.queues.specs.declared.Queue.{Queue}
 use Rattle.queues.proofs.Fits.{by-test, fresh-fit, fitted-fit, fitted-is, fitted-kind}
-use Rattle.histories.specs.Calls.{Call, load, read, vertical, ask, horizontal, ends, answers}
+use Rattle.histories.specs.Calls.{QueueCall, load, read, vertical, ask, horizontal, ends, answers}
 use Rattle.histories.specs.Account.{Account, Turn, opened, isFullBy, isEmptyBy, empties, asksFor, withLoaded, withGiven, withAsked}
-use Rattle.histories.specs.Account.{nextByte, turn, turned, account, says}
+use Rattle.histories.specs.Account.{nextByte, turn, turned, account, accountTold}
 use Rattle.histories.specs.Since.{wordIn, byteIn, wordsSince, bytesSince, loadedBy, givenBy, emptied, startOf}
 use Rattle.histories.specs.Opens.{ringFrom, opens}
 use Rattle.histories.proofs.Told.{by-tests, told}
@@ -34,7 +34,7 @@ module _ (a : Account) where
   asked : (words : ℕ) → Grows a (withAsked a words) [] []
   asked words = record { kind = refl; before = refl; first = refl; loaded = sym (append-nil (a .loaded)); given = sym (append-nil (a .given)) }
 
-  grows : (c : Call) → empties (a .kind) c ≡ false
+  grows : (c : QueueCall) → empties (a .kind) c ≡ false
       → Grows a (turned a c .account) (wordIn c (turned a c .reply .number)) (byteIn c (turned a c .reply .number) (turned a c .reply .byte))
   grows (load w) e =
       by-test (λ (t : Turn). Grows a (t .account) (wordIn (load w) (t .reply .number)) []) (isFullBy a) {y = turn (withLoaded a w) 0 0}
@@ -50,7 +50,7 @@ module _ (a : Account) where
   grows (horizontal g y) e = asked (asksFor a (horizontal g y))
   grows (ends g y) e = asked (asksFor a (ends g y))
 
-  opened-anew : (c : Call) → empties (a .kind) c ≡ true → turned a c .account ≡ opened (a .kind)
+  opened-anew : (c : QueueCall) → empties (a .kind) c ≡ true → turned a c .account ≡ opened (a .kind)
   opened-anew (load w) e = absurd (no e)
   opened-anew (read control) e = absurd (no e)
   opened-anew (vertical raster) e = rw e
@@ -59,7 +59,7 @@ module _ (a : Account) where
   opened-anew (ends g y) e = absurd (no e)
 
 -- The account that the calls since the last emptying began with.
-unfoldable begun : Account → List Call → Account
+unfoldable begun : Account → List QueueCall → Account
 begun a [] = a
 begun a (c ∷ cs) = pick (empties (a .kind) c) (opened (a .kind)) (begun a cs)
 
@@ -74,14 +74,14 @@ grows-on a b c words bytes more others g h =
       given = h .given ∙ ap (λ (l : List ℕ). l ++ others) (g .given) ∙ append-assoc (a .given) bytes others;
     }
 
-begun-kind : (a : Account) (cs : List Call) → begun a cs .kind ≡ a .kind
+begun-kind : (a : Account) (cs : List QueueCall) → begun a cs .kind ≡ a .kind
 unfolding begun
 begun-kind a [] = refl
 begun-kind a (c ∷ cs) = by-test (λ (x : Account). x .kind ≡ a .kind) (empties (a .kind) c) (λ e. refl) (λ e. begun-kind a cs)
 
-stretch : (a : Account) (cs : List Call)
-    → Grows (begun a cs) (account a cs) (wordsSince (a .kind) (says a cs)) (bytesSince (a .kind) (says a cs))
-unfolding begun account says wordsSince bytesSince
+stretch : (a : Account) (cs : List QueueCall)
+    → Grows (begun a cs) (account a cs) (wordsSince (a .kind) (accountTold a cs)) (bytesSince (a .kind) (accountTold a cs))
+unfolding begun account accountTold wordsSince bytesSince
 stretch a [] = stays a
 stretch a (c ∷ cs) =
     let g = stretch a cs in
@@ -96,7 +96,7 @@ opens-fresh : (kind : ℕ) → opens (freshOf kind) ≡ opened kind
 unfolding ringFrom bytesOf
 opens-fresh kind = refl
 
-begun-opens : (q : Queue) (cs : List Call) → begun (opens (fittedOf q)) cs ≡ opens (startOf q cs)
+begun-opens : (q : Queue) (cs : List QueueCall) → begun (opens (fittedOf q)) cs ≡ opens (startOf q cs)
 unfolding begun startOf
 begun-opens q [] = refl
 begun-opens q (c ∷ cs) =
@@ -105,7 +105,7 @@ begun-opens q (c ∷ cs) =
     (λ e. ap opened (fitted-kind q) ∙ sym (opens-fresh (q .ring .kind)))
     (λ e. begun-opens q cs)
 
-pub start-fit : (q : Queue) (cs : List Call) → Fit (startOf q cs .ring)
+pub start-fit : (q : Queue) (cs : List QueueCall) → Fit (startOf q cs .ring)
 unfolding startOf
 start-fit q [] = fitted-fit q
 start-fit q (c ∷ cs) =
@@ -113,30 +113,30 @@ start-fit q (c ∷ cs) =
 
 -- So of the record: what its history tells is what its account has loaded and given behind what the record began with.
 pub stretch-of :
-    (q : Queue) → length (q .words) ≡ 8 → (cs : List Call)
+    (q : Queue) → length (q .words) ≡ 8 → (cs : List QueueCall)
     → Grows (opens (startOf q cs)) (account (opens (fittedOf q)) cs) (loadedBy q cs) (givenBy q cs)
 stretch-of q long cs =
     rw (← begun-opens q cs, told q long cs)
-    (subst (λ (k : ℕ). Grows (begun (opens (fittedOf q)) cs) (account (opens (fittedOf q)) cs) (wordsSince k (says (opens (fittedOf q)) cs))
-    (bytesSince k (says (opens (fittedOf q)) cs))) (fitted-kind q) (stretch (opens (fittedOf q)) cs))
+    (subst (λ (k : ℕ). Grows (begun (opens (fittedOf q)) cs) (account (opens (fittedOf q)) cs) (wordsSince k (accountTold (opens (fittedOf q)) cs))
+    (bytesSince k (accountTold (opens (fittedOf q)) cs))) (fitted-kind q) (stretch (opens (fittedOf q)) cs))
 
-start-kind : (q : Queue) (cs : List Call) → startOf q cs .ring .kind ≡ q .ring .kind
+start-kind : (q : Queue) (cs : List QueueCall) → startOf q cs .ring .kind ≡ q .ring .kind
 unfolding startOf
 start-kind q [] = fitted-kind q
 start-kind q (c ∷ cs) =
     by-test (λ (x : Queue). x .ring .kind ≡ q .ring .kind) (empties (q .ring .kind) c) (λ e. refl) (λ e. start-kind q cs)
 
-pub account-kind : (q : Queue) → length (q .words) ≡ 8 → (cs : List Call) → account (opens (fittedOf q)) cs .kind ≡ q .ring .kind
+pub account-kind : (q : Queue) → length (q .words) ≡ 8 → (cs : List QueueCall) → account (opens (fittedOf q)) cs .kind ≡ q .ring .kind
 account-kind q long cs = stretch-of q long cs .kind ∙ start-kind q cs
 
 -- When the calls since began with a fresh record: an emptying among them, or a first record that is fresh or unfit.
-pub start-fresh : (q : Queue) → fittedOf q ≡ freshOf (q .ring .kind) → (cs : List Call) → startOf q cs ≡ freshOf (q .ring .kind)
+pub start-fresh : (q : Queue) → fittedOf q ≡ freshOf (q .ring .kind) → (cs : List QueueCall) → startOf q cs ≡ freshOf (q .ring .kind)
 unfolding startOf
 start-fresh q e [] = e
 start-fresh q e (c ∷ cs) =
     by-test (λ (x : Queue). x ≡ freshOf (q .ring .kind)) (empties (q .ring .kind) c) (λ t. refl) (λ t. start-fresh q e cs)
 
-pub start-emptied : (q : Queue) (cs : List Call) → emptied (q .ring .kind) cs ≡ true → startOf q cs ≡ freshOf (q .ring .kind)
+pub start-emptied : (q : Queue) (cs : List QueueCall) → emptied (q .ring .kind) cs ≡ true → startOf q cs ≡ freshOf (q .ring .kind)
 unfolding startOf emptied
 start-emptied q [] e = absurd (no e)
 start-emptied q (c ∷ cs) e =
@@ -145,7 +145,7 @@ start-emptied q (c ∷ cs) e =
     (or-split (empties (q .ring .kind) c) (emptied (q .ring .kind) cs) e)
 
 -- And when with the first one as it is: that is fit, and nothing has emptied it.
-pub start-same : (q : Queue) → Fit (q .ring) → (cs : List Call) → emptied (q .ring .kind) cs ≡ false → startOf q cs ≡ q
+pub start-same : (q : Queue) → Fit (q .ring) → (cs : List QueueCall) → emptied (q .ring .kind) cs ≡ false → startOf q cs ≡ q
 unfolding startOf emptied
 start-same q f [] e = fitted-is q f
 start-same q f (c ∷ cs) e =

@@ -4,8 +4,6 @@ use mathlib.Core.Bool.{Bool, true, false, not}
 use mathlib.Core.List.{List, [], _∷_}
 use mathlib.Core.Logic.{inl, inr}
 use mathlib.Core.Path.{_≡_, refl, sym, ap, subst}
-use native.Mathlib.Omega.{arith}
-use borrow.Author.Tests.{eqb-false}
 use lib.Dec.{eqb, ltb}
 use lib.ListN.{length}
 use Rattle.buffers.specs.Pick.{pick}
@@ -16,10 +14,11 @@ use Rattle.queues.specs.Steps.{emptiedOf, verticalOf, askOf, horizontalOf, ends
 use Rattle.queues.specs.Syncs.{cursorAsk, videoAsk}
 use Rattle.queues.specs.declared.Queue.{Queue}
 use Rattle.queues.specs.declared.Step.{Step}
+use Rattle.queues.proofs.Counts.{some-held}
 use Rattle.queues.proofs.Fits.{by-test, fitted-fit, fitted-is, fitted-kind}
-use Rattle.histories.specs.Calls.{Call, load, read, vertical, ask, horizontal, ends, made, after, answers}
+use Rattle.histories.specs.Calls.{QueueCall, load, read, vertical, ask, horizontal, ends, made, after, answers}
 use Rattle.histories.specs.Account.{Account, Turn, isFullBy, isEmptyBy, nextByte, asksFor, withLoaded, withGiven, withAsked, turn, turned}
-use Rattle.histories.specs.Account.{opened, empties, account, says}
+use Rattle.histories.specs.Account.{opened, empties, account, accountTold}
 use Rattle.histories.specs.Opens.{opens}
 use Rattle.histories.proofs.Agree.{Agree, full-is, empty-is, next-is, agree-put, agree-asked, agree-taken, agree-fresh, agree-opens}
 
@@ -53,8 +52,7 @@ module _ (q : Queue) (a : Account) (s : Agree q a) where
       (by-tests Same (isEmpty (q .ring)) (isEmptyBy a) (empty-is q a s)
       (λ e. same-step q a s 17 0)
       (λ e.
-      let h = eqb-false (q .ring .held) 0 e in
-      rw (← next-is q a s (omega arith))
+      rw (← next-is q a s (some-held (q .ring) e))
       (same-step (withoutByte q control) (withGiven a (nextByte a) (asksFor a (read control))) (agree-taken q a s control e) 0 (nextByte a))))
 
   agree-emptied : (t : Bool) → Agree (pick t q (freshOf (q .ring .kind))) (pick (not t) (opened (a .kind)) a)
@@ -84,7 +82,7 @@ module _ (q : Queue) (a : Account) (s : Agree q a) where
   same-asks : (words number : ℕ) → words ≡ number → Same (askOf q words) (turned a (ask number))
   same-asks words number e = rw e (same-ask number)
 
-  pub same-call : (c : Call) → Same (made q c) (turned a c)
+  pub same-call : (c : QueueCall) → Same (made q c) (turned a c)
   unfolding horizontalOf endsOf
   same-call (load w) = same-load w
   same-call (read control) = same-read control
@@ -94,11 +92,11 @@ module _ (q : Queue) (a : Account) (s : Agree q a) where
   same-call (ends g y) = same-asks _ _ (ap (λ k. pick (eqb k 0) (videoAsk g y) 0) (s .kind))
 
 -- A call goes on with the fitted record.
-pub made-fitted : (q : Queue) (c : Call) → made (fittedOf q) c ≡ made q c
+pub made-fitted : (q : Queue) (c : QueueCall) → made (fittedOf q) c ≡ made q c
 unfolding loadOf readOf verticalOf askOf horizontalOf endsOf
 made-fitted q c = go c (fitted-is (fittedOf q) (fitted-fit q))
   where
-    go : (c : Call) → fittedOf (fittedOf q) ≡ fittedOf q → made (fittedOf q) c ≡ made q c
+    go : (c : QueueCall) → fittedOf (fittedOf q) ≡ fittedOf q → made (fittedOf q) c ≡ made q c
     go (load w) e = rw e
     go (read control) e = rw e
     go (vertical raster) e = rw e
@@ -106,7 +104,7 @@ made-fitted q c = go c (fitted-is (fittedOf q) (fitted-fit q))
     go (horizontal g y) e = rw (e, fitted-kind q)
     go (ends g y) e = rw (e, fitted-kind q)
 
-same-made : (q : Queue) (a : Account) → Agree (fittedOf q) a → (c : Call) → Same (made q c) (turned a c)
+same-made : (q : Queue) (a : Account) → Agree (fittedOf q) a → (c : QueueCall) → Same (made q c) (turned a c)
 same-made q a s c = subst (λ (x : Step). Same x (turned a c)) (made-fitted q c) (same-call (fittedOf q) a s c)
 
 fitted-long : (q : Queue) → length (q .words) ≡ 8 → length (fittedOf q .words) ≡ 8
@@ -115,19 +113,19 @@ fitted-long q long = by-test (λ (x : Queue). length (x .words) ≡ 8) (isFit (q
 
 -- From any record with its eight words, over any history.
 module _ (q : Queue) (long : length (q .words) ≡ 8) where
-  pub agree : (cs : List Call) → Agree (fittedOf (after q cs)) (account (opens (fittedOf q)) cs)
+  pub agrees : (cs : List QueueCall) → Agree (fittedOf (after q cs)) (account (opens (fittedOf q)) cs)
   unfolding after account
-  agree [] = agree-opens (fittedOf q) (fitted-fit q) (fitted-long q long)
-  agree (c ∷ cs) =
-      let t = same-made (after q cs) (account (opens (fittedOf q)) cs) (agree cs) c in
+  agrees [] = agree-opens (fittedOf q) (fitted-fit q) (fitted-long q long)
+  agrees (c ∷ cs) =
+      let t = same-made (after q cs) (account (opens (fittedOf q)) cs) (agrees cs) c in
       subst (λ (x : Queue). Agree x (turned (account (opens (fittedOf q)) cs) c .account))
       (sym (fitted-is (made (after q cs) c .queue) (t .agree .fit))) (t .agree)
 
-  pub same : (cs : List Call) (c : Call) → Same (made (after q cs) c) (turned (account (opens (fittedOf q)) cs) c)
-  same cs c = same-made (after q cs) (account (opens (fittedOf q)) cs) (agree cs) c
+  pub same-turn : (cs : List QueueCall) (c : QueueCall) → Same (made (after q cs) c) (turned (account (opens (fittedOf q)) cs) c)
+  same-turn cs c = same-made (after q cs) (account (opens (fittedOf q)) cs) (agrees cs) c
 
   -- Bytes in order, counts, asks and refusals, all at once.
-  pub told : (cs : List Call) → answers q cs ≡ says (opens (fittedOf q)) cs
-  unfolding answers says
+  pub told : (cs : List QueueCall) → answers q cs ≡ accountTold (opens (fittedOf q)) cs
+  unfolding answers accountTold
   told [] = refl
-  told (c ∷ cs) = rw (same cs c .reply, told cs)
+  told (c ∷ cs) = rw (same-turn cs c .reply, told cs)

@@ -10,7 +10,7 @@ use Rattle.buffers.specs.Words.{bytesOf}
 use Rattle.queues.specs.Queue.{depthOf, firstComing}
 use Rattle.queues.specs.Syncs.{cursorAsk, videoAsk}
 use Rattle.queues.specs.declared.Reply.{Reply}
-use Rattle.histories.specs.Calls.{Call, load, read, vertical, ask, horizontal, ends, Answered}
+use Rattle.histories.specs.Calls.{QueueCall, load, read, vertical, ask, horizontal, ends, Answered}
 
 -- The number of the first word loaded is 0 but for an account that begins with a record taken as it is; so are the words counted before it.
 pub record Account : Type 0 where
@@ -26,8 +26,8 @@ abbrev pub opened : ℕ → Account
 opened kind = record { kind = kind; before = 0; first = 0; loaded = []; given = []; coming = firstComing kind }
 
 -- Words counted, words wholly read, and words held: a word holds its room until its last byte is read.
-abbrev pub counted : Account → ℕ
-counted a = a .before + length (a .loaded)
+abbrev pub countOf : Account → ℕ
+countOf a = a .before + length (a .loaded)
 
 abbrev pub wholly : Account → ℕ
 wholly a = length (a .given) / 4
@@ -41,7 +41,7 @@ nextByte a = getD (bytesOf (a .loaded)) (length (a .given)) 0
 
 -- 16: a load into a full queue, or with the count at its largest. 17: a read from an empty one.
 abbrev pub isFullBy : Account → Bool
-isFullBy a = leb (depthOf (a .kind)) (holds a) || eqb (counted a) (2 ^ 64 - 1)
+isFullBy a = leb (depthOf (a .kind)) (holds a) || eqb (countOf a) (2 ^ 64 - 1)
 
 abbrev pub isEmptyBy : Account → Bool
 isEmptyBy a = eqb (holds a) 0
@@ -55,7 +55,7 @@ askedAtEnd a control =
     (pick (ltb 1 (a .kind) && eqb (holds a) 1) 4 0)
 
 -- What a call asks for. Horizontal sync asks of a cursor queue, its end of a video queue.
-abbrev pub asksFor : Account → Call → ℕ
+abbrev pub asksFor : Account → QueueCall → ℕ
 asksFor a (load w) = 0
 asksFor a (read control) = pick (isEmptyBy a) 0 (pick (eqb (length (a .given) % 4) 3) (askedAtEnd a control) 0)
 asksFor a (vertical raster) = 0
@@ -88,7 +88,7 @@ withAsked a words =
     record { kind = a .kind; before = a .before; first = a .first; loaded = a .loaded; given = a .given; coming = comingWith a words }
 
 -- Only vertical sync empties, where it starts, and never sound.
-abbrev pub empties : ℕ → Call → Bool
+abbrev pub empties : ℕ → QueueCall → Bool
 empties kind (load w) = false
 empties kind (read control) = false
 empties kind (vertical raster) = eqb raster 0 && not (ltb 1 kind)
@@ -103,9 +103,9 @@ pub record Turn : Type 0 where
 
 abbrev pub turn : Account → ℕ → ℕ → Turn
 turn a number byte =
-    record { account = a; reply = record { count = counted a; number = number; byte = byte; asks = pick (leb 4 (a .coming)) 1 0 } }
+    record { account = a; reply = record { count = countOf a; number = number; byte = byte; asks = pick (leb 4 (a .coming)) 1 0 } }
 
-abbrev pub turned : Account → Call → Turn
+abbrev pub turned : Account → QueueCall → Turn
 turned a (load w) = pick (isFullBy a) (turn a 16 0) (turn (withLoaded a w) 0 0)
 turned a (read control) =
     pick (isEmptyBy a) (turn a 17 0) (turn (withGiven a (nextByte a) (asksFor a (read control))) 0 (nextByte a))
@@ -115,10 +115,10 @@ turned a (horizontal g y) = turn (withAsked a (asksFor a (horizontal g y))) 0 0
 turned a (ends g y) = turn (withAsked a (asksFor a (ends g y))) 0 0
 
 -- The account after a history, and what it says that the calls are answered.
-unfoldable pub account : Account → List Call → Account
+unfoldable pub account : Account → List QueueCall → Account
 account a [] = a
 account a (c ∷ cs) = turned (account a cs) c .account
 
-unfoldable pub says : Account → List Call → List Answered
-says a [] = []
-says a (c ∷ cs) = record { call = c; reply = turned (account a cs) c .reply } ∷ says a cs
+unfoldable pub accountTold : Account → List QueueCall → List Answered
+accountTold a [] = []
+accountTold a (c ∷ cs) = record { call = c; reply = turned (account a cs) c .reply } ∷ accountTold a cs

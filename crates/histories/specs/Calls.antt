@@ -8,16 +8,16 @@ use Rattle.queues.specs.declared.Reply.{Reply}
 use Rattle.queues.specs.declared.Step.{Step}
 
 -- A load has its word, a read the control register's data, a sync its raster, an ask its number of words.
-pub data Call : Type 0 where
-  load : ℕ → Call
-  read : ℕ → Call
-  vertical : ℕ → Call
-  ask : ℕ → Call
-  horizontal : Registers → ℕ → Call
-  ends : Registers → ℕ → Call
+pub data QueueCall : Type 0 where
+  load : ℕ → QueueCall
+  read : ℕ → QueueCall
+  vertical : ℕ → QueueCall
+  ask : ℕ → QueueCall
+  horizontal : Registers → ℕ → QueueCall
+  ends : Registers → ℕ → QueueCall
 
 -- What a call makes of a record, by the definition that its function promises.
-abbrev pub made : Queue → Call → Step
+abbrev pub made : Queue → QueueCall → Step
 made q (load w) = loadOf q w
 made q (read control) = readOf q control
 made q (vertical raster) = verticalOf q raster
@@ -26,15 +26,15 @@ made q (horizontal g y) = horizontalOf q g y
 made q (ends g y) = endsOf q g y
 
 -- The record after a history.
-unfoldable pub after : Queue → List Call → Queue
+unfoldable pub after : Queue → List QueueCall → Queue
 after q [] = q
 after q (c ∷ cs) = made (after q cs) c .queue
 
 -- A call with what it was answered.
 pub record Answered : Type 0 where
-  pub call : Call
+  pub call : QueueCall
   pub reply : Reply
 
-unfoldable pub answers : Queue → List Call → List Answered
+unfoldable pub answers : Queue → List QueueCall → List Answered
 answers q [] = []
 answers q (c ∷ cs) = record { call = c; reply = made (after q cs) c .reply } ∷ answers q cs

@@ -7,11 +7,11 @@ use Rattle.buffers.specs.Words.{wordsOf}
 use Rattle.registers.specs.declared.setting.Setting.{Setting}
 use Rattle.queues.specs.Queue.{freshOf}
 use Rattle.queues.specs.declared.Queue.{Queue}
-use Rattle.histories.specs.Calls.{Call}
+use Rattle.histories.specs.Calls.{QueueCall}
 use Rattle.histories.specs.Since.{loadedBy, startOf}
 
 -- Since an emptying, or from a fresh record, the words loaded are the frame's own in order, then filler.
-pub record Fed (frame : List ℕ) (q : Queue) (cs : List Call) : Type 0 where
+pub record Fed (frame : List ℕ) (q : Queue) (cs : List QueueCall) : Type 0 where
   pub filler : List ℕ
   pub since : startOf q cs ≡ freshOf (q .ring .kind)
   pub own : loadedBy q cs ≡ take (length (loadedBy q cs)) (frame ++ filler)

@@ -6,11 +6,11 @@ use lib.Dec.{eqb}
 use Rattle.buffers.specs.Pick.{pick}
 use Rattle.queues.specs.Queue.{freshOf, fittedOf}
 use Rattle.queues.specs.declared.Queue.{Queue}
-use Rattle.histories.specs.Calls.{Call, load, read, vertical, ask, horizontal, ends, Answered, answers}
+use Rattle.histories.specs.Calls.{QueueCall, load, read, vertical, ask, horizontal, ends, Answered, answers}
 use Rattle.histories.specs.Account.{empties}
 
 -- The word that an accepted load has loaded, and the byte that an accepted read has given.
-abbrev pub wordIn : Call → ℕ → List ℕ
+abbrev pub wordIn : QueueCall → ℕ → List ℕ
 wordIn (load w) number = pick (eqb number 0) (w ∷ []) []
 wordIn (read control) number = []
 wordIn (vertical raster) number = []
@@ -18,7 +18,7 @@ wordIn (ask words) number = []
 wordIn (horizontal g y) number = []
 wordIn (ends g y) number = []
 
-abbrev pub byteIn : Call → ℕ → ℕ → List ℕ
+abbrev pub byteIn : QueueCall → ℕ → ℕ → List ℕ
 byteIn (load w) number byte = []
 byteIn (read control) number byte = pick (eqb number 0) (byte ∷ []) []
 byteIn (vertical raster) number byte = []
@@ -36,18 +36,18 @@ bytesSince kind [] = []
 bytesSince kind (x ∷ xs) = pick (empties kind (x .call)) [] (bytesSince kind xs ++ byteIn (x .call) (x .reply .number) (x .reply .byte))
 
 -- So of the calls on a record: the words they have loaded and the bytes they were given since the last emptying, by their own answers.
-abbrev pub loadedBy : Queue → List Call → List ℕ
+abbrev pub loadedBy : Queue → List QueueCall → List ℕ
 loadedBy q calls = wordsSince (q .ring .kind) (answers q calls)
 
-abbrev pub givenBy : Queue → List Call → List ℕ
+abbrev pub givenBy : Queue → List QueueCall → List ℕ
 givenBy q calls = bytesSince (q .ring .kind) (answers q calls)
 
 -- Has a history emptied a queue of this kind?
-unfoldable pub emptied : ℕ → List Call → Bool
+unfoldable pub emptied : ℕ → List QueueCall → Bool
 emptied kind [] = false
 emptied kind (c ∷ cs) = empties kind c || emptied kind cs
 
 -- The record that the calls since then began with: a fresh one, or where nothing has emptied it the first record, a fresh one if that is unfit.
-unfoldable pub startOf : Queue → List Call → Queue
+unfoldable pub startOf : Queue → List QueueCall → Queue
 startOf q [] = fittedOf q
 startOf q (c ∷ cs) = pick (empties (q .ring .kind) c) (freshOf (q .ring .kind)) (startOf q cs)
