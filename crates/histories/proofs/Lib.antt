@@ -10,3 +10,4 @@ pub mod Counts
 pub mod Bytes
 pub mod Fed
 pub mod Live
+pub mod Lived

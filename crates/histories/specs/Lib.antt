@@ -4,3 +4,4 @@ pub mod Since
 pub mod Opens
 pub mod Refused
 pub mod Live
+pub mod Lived
