@@ -1,13 +1,12 @@
 -- Every call leaves a fit record, answers that record's count and whether it asks, and adds what it asks for to the words still to come.
 use Prim.Native.Nat.{ℕ, _+_, _-_, _≤_, min}
-use mathlib.Core.Bool.{true, false, not}
+use mathlib.Core.Bool.{true, false}
 use mathlib.Core.List.{List}
 use mathlib.Core.Path.{_≡_, refl, sym, _∙_, ap}
 use native.Mathlib.Omega.{arith}
-use borrow.Author.Tests.{not-true}
 use lib.Dec.{eqb, ltb}
 use lib.ListN.{length}
-use Rattle.buffers.proofs.Tests.{and-split, no}
+use Rattle.buffers.proofs.Tests.{no}
 use Rattle.queues.specs.Queue.{depthOf, freshOf, fittedOf, isFull, isEmpty, asksBit, Fit, frontByte}
 use Rattle.queues.specs.Steps.{stepOf, emptiedOf, withAsk, withWord, withoutByte, loadFit, readFit, loadOf, readOf, verticalOf, askOf, horizontalOf, endsOf}
 use Rattle.queues.specs.declared.Queue.{Queue}
@@ -23,7 +22,7 @@ use Rattle.histories.specs.Opens.{opens}
 use Rattle.histories.proofs.Moves.{put-fit, taken-kind, taken-fit, asked-fit}
 use Rattle.histories.proofs.Agree.{depth-is}
 use Rattle.histories.proofs.Told.{agrees, same-turn}
-use Rattle.histories.proofs.Stretch.{account-kind}
+use Rattle.histories.proofs.Stretch.{emptying, account-kind}
 
 -- Of its kind, fit, its count and whether it asks: what every answer carries is of the record as the call leaves it.
 pub record Leaves (k : ℕ) (s : Step) : Type 0 where
@@ -90,16 +89,15 @@ module _ (q : Queue) where
   coming-most c = omega (arith, leaves c .fit .coming, ap depthOf (leaves c .kind))
 
   -- An emptying leaves a fresh record, with nothing to come.
-  pub emptied-fresh : (c : QueueCall) → empties (q .ring .kind) c ≡ true → made q c .queue ≡ freshOf (q .ring .kind)
-  unfolding verticalOf
-  emptied-fresh (load w) e = absurd (no e)
-  emptied-fresh (read control) e = absurd (no e)
-  emptied-fresh (vertical raster) e =
-      let h = and-split (eqb raster 0) (not (ltb 1 (q .ring .kind))) e in
-      rw (h .0) (emptied-of (fittedOf q) (q .ring .kind) (fitted-kind q) (not-true (ltb 1 (q .ring .kind)) (h .1)))
-  emptied-fresh (ask words) e = absurd (no e)
-  emptied-fresh (horizontal g y) e = absurd (no e)
-  emptied-fresh (ends g y) e = absurd (no e)
+  module _ (c : QueueCall) (e : empties (q .ring .kind) c ≡ true) where
+    pub emptied-fresh : made q c .queue ≡ freshOf (q .ring .kind)
+    unfolding verticalOf
+    emptied-fresh =
+        let h = emptying (q .ring .kind) c e in
+        rw (h .0) (emptied-of (fittedOf q) (q .ring .kind) (fitted-kind q) (h .1))
+
+    pub emptied-none : made q c .queue .ring .coming ≡ 0
+    emptied-none = ap (λ (x : Queue). x .ring .coming) emptied-fresh ∙ rw (emptying (q .ring .kind) c e .1)
 
 -- What a call asks for is added up to the depth; a word loaded takes one off.
 comes : (a : Account) (c : QueueCall) → a .coming ≤ depthOf (a .kind) → empties (a .kind) c ≡ false

@@ -1,13 +1,15 @@
 -- What an account has loaded and given is what its history's own calls and answers tell since the last emptying, behind what it began with.
 use Prim.Native.Nat.{ℕ}
-use mathlib.Core.Bool.{true, false}
+use mathlib.Core.Bool.{true, false, not}
 use mathlib.Core.List.{List, [], _∷_, _++_, append-assoc, append-nil}
 use mathlib.Core.Logic.{inl, inr, ⊎-elim}
 use mathlib.Core.Path.{_≡_, refl, sym, _∙_, ap, subst}
+use borrow.Author.Tests.{eqb-true, not-true}
+use lib.Dec.{eqb, ltb}
 use lib.ListN.{length}
 use Rattle.buffers.specs.Pick.{pick}
 use Rattle.buffers.specs.Words.{bytesOf}
-use Rattle.buffers.proofs.Tests.{or-split, or-neither, no}
+use Rattle.buffers.proofs.Tests.{and-split, or-split, or-neither, no}
 use Rattle.buffers.proofs.Split.{true-or-false}
 use Rattle.queues.specs.Queue.{freshOf, fittedOf, Fit}
 use Rattle.queues.specs.declared.Queue.{Queue}
@@ -26,6 +28,17 @@ pub record Grows (a b : Account) (words bytes : List ℕ) : Type 0 where
   pub first : b .first ≡ a .first
   pub loaded : b .loaded ≡ a .loaded ++ words
   pub given : b .given ≡ a .given ++ bytes
+
+-- Only vertical sync empties, where it starts, and never sound.
+pub emptying : (kind : ℕ) (c : QueueCall) → empties kind c ≡ true → (c ≡ vertical 0) × (ltb 1 kind ≡ false)
+emptying kind (load w) e = absurd (no e)
+emptying kind (read control) e = absurd (no e)
+emptying kind (vertical raster) e =
+    let h = and-split (eqb raster 0) (not (ltb 1 kind)) e in
+    (ap vertical (eqb-true raster 0 (h .0)), not-true (ltb 1 kind) (h .1))
+emptying kind (ask words) e = absurd (no e)
+emptying kind (horizontal g y) e = absurd (no e)
+emptying kind (ends g y) e = absurd (no e)
 
 module _ (a : Account) where
   stays : Grows a a [] []
@@ -51,12 +64,7 @@ module _ (a : Account) where
   grows (ends g y) e = asked (asksFor a (ends g y))
 
   opened-anew : (c : QueueCall) → empties (a .kind) c ≡ true → turned a c .account ≡ opened (a .kind)
-  opened-anew (load w) e = absurd (no e)
-  opened-anew (read control) e = absurd (no e)
-  opened-anew (vertical raster) e = rw e
-  opened-anew (ask words) e = absurd (no e)
-  opened-anew (horizontal g y) e = absurd (no e)
-  opened-anew (ends g y) e = absurd (no e)
+  opened-anew c e = let h = emptying (a .kind) c e in rw (h .0, h .1)
 
 -- The account that the calls since the last emptying began with.
 unfoldable begun : Account → List QueueCall → Account
