@@ -15,7 +15,7 @@ use Rattle.queues.specs.Queue.{freshOf, fittedOf, Fit}
 use Rattle.queues.specs.declared.Queue.{Queue}
 use Rattle.queues.proofs.Fits.{by-test, fresh-fit, fitted-fit, fitted-is, fitted-kind}
 use Rattle.histories.specs.Calls.{QueueCall, load, read, vertical, ask, horizontal, ends, answers}
-use Rattle.histories.specs.Account.{Account, Turn, opened, isFullBy, isEmptyBy, empties, asksFor, withLoaded, withGiven, withAsked}
+use Rattle.histories.specs.Account.{Account, Turn, opened, isFullBy, isEmptyBy, empties, asksFor, comingWith, withLoaded, withGiven}
 use Rattle.histories.specs.Account.{nextByte, turn, turned, account, accountTold}
 use Rattle.histories.specs.Since.{wordIn, byteIn, wordsSince, bytesSince, loadedBy, givenBy, emptied, startOf}
 use Rattle.histories.specs.Opens.{ringFrom, opens}
@@ -41,11 +41,13 @@ emptying kind (horizontal g y) e = absurd (no e)
 emptying kind (ends g y) e = absurd (no e)
 
 module _ (a : Account) where
-  stays : Grows a a [] []
-  stays = record { kind = refl; before = refl; first = refl; loaded = sym (append-nil (a .loaded)); given = sym (append-nil (a .given)) }
+  -- Whatever words are still to come.
+  unmoved : (words : ℕ)
+      → Grows a (record { kind = a .kind; before = a .before; first = a .first; loaded = a .loaded; given = a .given; coming = words }) [] []
+  unmoved words = record { kind = refl; before = refl; first = refl; loaded = sym (append-nil (a .loaded)); given = sym (append-nil (a .given)) }
 
-  asked : (words : ℕ) → Grows a (withAsked a words) [] []
-  asked words = record { kind = refl; before = refl; first = refl; loaded = sym (append-nil (a .loaded)); given = sym (append-nil (a .given)) }
+  stays : Grows a a [] []
+  stays = unmoved (a .coming)
 
   grows : (c : QueueCall) → empties (a .kind) c ≡ false
       → Grows a (turned a c .account) (wordIn c (turned a c .reply .number)) (byteIn c (turned a c .reply .number) (turned a c .reply .byte))
@@ -59,9 +61,9 @@ module _ (a : Account) where
       (λ f. stays)
       (λ f. record { kind = refl; before = refl; first = refl; loaded = sym (append-nil (a .loaded)); given = refl })
   grows (vertical raster) e = rw e stays
-  grows (ask words) e = asked words
-  grows (horizontal g y) e = asked (asksFor a (horizontal g y))
-  grows (ends g y) e = asked (asksFor a (ends g y))
+  grows (ask words) e = unmoved (comingWith a words)
+  grows (horizontal g y) e = unmoved (comingWith a (asksFor a (horizontal g y)))
+  grows (ends g y) e = unmoved (comingWith a (asksFor a (ends g y)))
 
   opened-anew : (c : QueueCall) → empties (a .kind) c ≡ true → turned a c .account ≡ opened (a .kind)
   opened-anew c e = let h = emptying (a .kind) c e in rw (h .0, h .1)
