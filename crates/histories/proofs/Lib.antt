@@ -1,0 +1,13 @@
+pub mod Rings
+pub mod Moves
+pub mod Agree
+pub mod Told
+pub mod Stretch
+pub mod Order
+pub mod Kept
+pub mod Refused
+pub mod Counts
+pub mod Bytes
+pub mod Fed
+pub mod Live
+pub mod Lived

@@ -1,0 +1,1 @@
+// No code: what the queue calls promise together, over histories of any length, stated in specs/ and proved in proofs/.
