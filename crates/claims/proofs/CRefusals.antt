@@ -15,6 +15,9 @@ use Rattle.registers.specs.Check.{settingTable, checkTold}
 use Rattle.registers.specs.Sound.{soundTable, soundTold}
 use Rattle.registers.specs.declared.record.Registers.{Registers}
 use Rattle.registers.proofs.Told.{load-told, check-told, sound-told}
+use Rattle.queues.specs.Syncs.{syncAsk}
+use Rattle.queues.specs.Steps.{loadTable as queueLoadTable, readTable as queueReadTable}
+use Rattle.queues.specs.declared.Queue.{Queue}
 use Rattle.colours.specs.Colour.{colourOf}
 use Rattle.cells.specs.Picture.{pictureTable}
 use Rattle.frame.specs.Frame.{cells, frameCell, frameTable, frameTold, frameLeaves, rasterCell, rasterTable, rasterTold, rasterLeaves}
@@ -36,6 +39,7 @@ use Rattle.vombelishi.specs.Load.{valueStored, flagStored, valuesStored, flagsS
 use Rattle.vombelishi.specs.Load.{wordCall, wordValuesLeaves, wordWrittenLeaves}
 use Rattle.vombelishi.specs.Settings.{numbersOf, settingTold, checkCall, checkSoundCall}
 use Rattle.vombelishi.specs.Pictures.{frameCall, frameCallLeaves, rasterCall, rasterCallLeaves, foundTold, wordsCall, marksCall, colourCall}
+use Rattle.vombelishi.specs.Queued.{syncCall}
 use Rattle.vombelishi.specs.Sounds.{soundCall, soundLeaves, counterLeaves, pairCall}
 use Rattle.vombelishi.specs.Files.{nineOf, readCall}
 use Rattle.vombelishi.specs.Texts.{textCall, textLeaves}
@@ -45,7 +49,7 @@ use Rattle.plates.proofs.Told.{read-told, copy-told, write-told}
 use Rattle.claims.specs.Calls.{Every, numbers, settingNumbers, ByTable, Kept}
 use Rattle.claims.specs.CRows.{ofRecord, roomFor, textRows}
 use Rattle.claims.specs.CViews as c
-use Rattle.claims.specs.CViews.{LoadRun, CheckRun, CheckSoundRun, FrameRun, RasterRun, WordsRun, MarksRun, ColourRun}
+use Rattle.claims.specs.CViews.{LoadRun, CheckRun, CheckSoundRun, FrameRun, RasterRun, WordsRun, MarksRun, ColourRun, SyncRun}
 use Rattle.claims.specs.CViews.{SoundRun, PairRun, FileRun, WriteRun, TextRun}
 use Rattle.claims.proofs.CCodes.{no-rows, plain, fits-after, setting-fits, sound-fits, load-fits}
 use Rattle.claims.proofs.CCodes.{by-code, kept-code, kept-under, record-told, record-fits, record-code, room-code}
@@ -83,8 +87,17 @@ module _ (values written : List ℕ) where
   pub vom-colour-numbers : numbers (ofRecord values written λ g. []) ≡ 13 ∷ []
   vom-colour-numbers = refl
 
+  pub vom-sync-ask-numbers : numbers (ofRecord values written λ g. []) ≡ 13 ∷ []
+  vom-sync-ask-numbers = refl
+
   pub vom-sound-numbers : (words places : ℕ) → numbers (ofRecord values written λ g. playTable g words places) ≡ 13 ∷ 3 ∷ 10 ∷ 13 ∷ []
   vom-sound-numbers words places = refl
+
+pub vom-queue-load-numbers : (q : Queue) → numbers (queueLoadTable q) ≡ 16 ∷ []
+vom-queue-load-numbers q = refl
+
+pub vom-queue-read-numbers : (q : Queue) → numbers (queueReadTable q) ≡ 17 ∷ []
+vom-queue-read-numbers q = refl
 
 pub vom-sound-pair-numbers : (stereo places : ℕ) → numbers (pairTable stereo ++ roomFor 2 places) ≡ 10 ∷ 13 ∷ []
 vom-sound-pair-numbers stereo places = refl
@@ -210,6 +223,17 @@ vom-colour-refuses κs a x s p =
       record-code (run .values) (run .written) (λ g. given (colourOf g (run .depth) (run .pixel))) (λ g. [])
           (λ g. colourOf g (run .depth) (run .pixel)) (λ g. no-rows) (λ g. refl) (p .0),
       kept-code (colourCall (run .values) (run .written) (run .depth) (run .pixel)) (λ u. cellBy u (run .before)) (p .0) (p .1) (λ w. refl),
+    )
+
+-- Queues. What the calls on a lent queue refuse is in `Lent`.
+pub vom-sync-ask-refuses : Every c.syncAsk λ run.
+    ByTable (run .answer) (ofRecord (run .values) (run .written) λ g. []) tt × Kept (run .answer) (run .before) (run .after)
+unfolding syncCall
+vom-sync-ask-refuses κs a x s p =
+    let run : SyncRun = c.syncAsk .seen κs a x s in (
+      record-code (run .values) (run .written) (λ g. given (syncAsk g (run .kind) (run .raster))) (λ g. [])
+          (λ g. syncAsk g (run .kind) (run .raster)) (λ g. no-rows) (λ g. refl) (p .0),
+      kept-code (syncCall (run .values) (run .written) (run .kind) (run .raster)) (λ u. cellBy u (run .before)) (p .0) (p .1) (λ w. refl),
     )
 
 -- Sound.

@@ -10,6 +10,7 @@ pub mod Refusals
 pub mod Words
 pub mod CCodes
 pub mod CRefusals
+pub mod Lent
 pub mod Dark
 pub mod Demands
 pub mod Printed

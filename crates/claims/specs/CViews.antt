@@ -24,6 +24,8 @@ use Rattle.vombelishi.proofs.rasters.vom_marks.Kinds as marks-kinds
 use Rattle.vombelishi.proofs.rasters.vom_marks.Reads as marks-reads
 use Rattle.vombelishi.proofs.levels.vom_colour.Kinds as colour-kinds
 use Rattle.vombelishi.proofs.levels.vom_colour.Reads as colour-reads
+use Rattle.vombelishi.proofs.queued.vom_sync_ask.Kinds as sync-ask-kinds
+use Rattle.vombelishi.proofs.queued.vom_sync_ask.Reads as sync-ask-reads
 use Rattle.vombelishi.proofs.sounds.vom_sound.Kinds as sound-kinds
 use Rattle.vombelishi.proofs.sounds.vom_sound.Reads as sound-reads
 use Rattle.vombelishi.proofs.sounds.vom_sound_pair.Kinds as sound-pair-kinds
@@ -205,6 +207,28 @@ colour = call 3 colour-kinds.ps colour-kinds.r colour-reads.Post ColourRun
       written = now (a .1 .0);
       depth = a .1 .1 .0;
       pixel = a .1 .1 .1 .0;
+      answer = codeSays x;
+      before = now (a .1 .1 .1 .1 .0);
+      after = now (s .1 .1 .1 .1 .0);
+    }
+
+-- What a raster's sync asks of a queue.
+pub record SyncRun : Type 0 where
+  pub values : List ℕ
+  pub written : List ℕ
+  pub kind : ℕ
+  pub raster : ℕ
+  pub answer : Told (Unit {0})
+  pub before : ℕ
+  pub after : ℕ
+
+abbrev pub syncAsk : Call
+syncAsk = call 3 sync-ask-kinds.ps sync-ask-kinds.r sync-ask-reads.Post SyncRun
+    λ κs a x s. record {
+      values = now (a .0);
+      written = now (a .1 .0);
+      kind = a .1 .1 .0;
+      raster = a .1 .1 .1 .0;
       answer = codeSays x;
       before = now (a .1 .1 .1 .1 .0);
       after = now (s .1 .1 .1 .1 .0);

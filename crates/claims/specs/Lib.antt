@@ -7,5 +7,6 @@ pub mod RoundTrip
 pub mod Pieces
 pub mod CRows
 pub mod CViews
+pub mod Lent
 pub mod Marked
 pub mod SmallText

@@ -13,7 +13,7 @@ use lib.Seq.{append-snoc, getD-append-seam, length-take-le}
 use Rattle.buffers.specs.Words.{bytesOf}
 use Rattle.buffers.proofs.Split.{true-or-false}
 use Rattle.buffers.proofs.Words.{length-bytes, bytes-append}
-use Rattle.queues.specs.Queue.{depthOf, around, freshOf, isFull, isEmpty, Fit, frontByte}
+use Rattle.queues.specs.Queue.{queueDepth, around, freshOf, isFull, isEmpty, Fit, frontByte}
 use Rattle.queues.specs.Steps.{behind, askedBy, byteTaken, withWord, withoutByte, withAsk}
 use Rattle.queues.specs.declared.Queue.{Queue}
 use Rattle.queues.specs.declared.Ring.{Ring}
@@ -32,10 +32,10 @@ pub record Agree (q : Queue) (a : Account) : Type 0 where
   pub order : a .given ++ bytesLeft q ≡ bytesOf (a .loaded)
   pub count : q .ring .count ≡ countOf a
   pub coming : q .ring .coming ≡ a .coming
-  pub place : q .ring .place ≡ (a .first + wholly a) % depthOf (q .ring .kind)
+  pub place : q .ring .place ≡ (a .first + wholly a) % queueDepth (q .ring .kind)
 
 -- Places of a ring that is eight or four words deep are numbers of words, counted by its depth.
-next-place : (m kind : ℕ) → around (depthOf kind) (m % depthOf kind + 1) ≡ (m + 1) % depthOf kind
+next-place : (m kind : ℕ) → around (queueDepth kind) (m % queueDepth kind + 1) ≡ (m + 1) % queueDepth kind
 next-place m kind = elim (true-or-false (eqb kind 0)) [ inl e ↦ rw e eight | inr e ↦ rw e four ]
   where
     eight : around 8 (m % 8 + 1) ≡ (m + 1) % 8
@@ -48,7 +48,7 @@ next-place m kind = elim (true-or-false (eqb kind 0)) [ inl e ↦ rw e eight | i
         by-test (λ n. n ≡ (m + 1) % 4) (ltb (m % 4 + 1) 4)
         (λ e. omega (arith, ltb-true (m % 4 + 1) 4 e)) (λ e. omega (arith, ltb-false (m % 4 + 1) 4 e))
 
-place-four : (m kind : ℕ) → m % depthOf kind % 4 ≡ m % 4
+place-four : (m kind : ℕ) → m % queueDepth kind % 4 ≡ m % 4
 place-four m kind = elim (true-or-false (eqb kind 0)) [ inl e ↦ rw e (omega arith) | inr e ↦ rw e (omega arith) ]
 
 module _ (q : Queue) (a : Account) (s : Agree q a) where
@@ -65,8 +65,8 @@ module _ (q : Queue) (a : Account) (s : Agree q a) where
   pub taken-is : q .ring .taken ≡ length (a .given) % 4
   taken-is = omega (arith, lengths, s .fit .taken, s .fit .none)
 
-  pub depth-is : depthOf (q .ring .kind) ≡ depthOf (a .kind)
-  depth-is = ap depthOf (s .kind)
+  pub depth-is : queueDepth (q .ring .kind) ≡ queueDepth (a .kind)
+  depth-is = ap queueDepth (s .kind)
 
   pub full-is : isFull (q .ring) ≡ isFullBy a
   full-is = rw (s .kind, held-is, s .count)
@@ -109,7 +109,7 @@ module _ (q : Queue) (a : Account) (s : Agree q a) where
         kind = s .kind;
         order = s .order;
         count = s .count;
-        coming = up-to-min (depthOf (q .ring .kind)) (q .ring .coming) n ∙ rw (s .kind, s .coming);
+        coming = up-to-min (queueDepth (q .ring .kind)) (q .ring .coming) n ∙ rw (s .kind, s .coming);
         place = s .place;
       }
 
@@ -119,7 +119,7 @@ module _ (q : Queue) (a : Account) (s : Agree q a) where
 
     taken-coming : byteTaken (q .ring) control .coming ≡ comingWith a (asksFor a (read control))
     taken-coming =
-        let d = depthOf (q .ring .kind) in
+        let d = queueDepth (q .ring .kind) in
         let read-some : isEmptyBy a ≡ false = sym empty-is ∙ e in
         elim (true-or-false (eqb (q .ring .taken) 3)) [
           | inl t ↦
@@ -131,10 +131,10 @@ module _ (q : Queue) (a : Account) (s : Agree q a) where
           | inr t ↦ rw (read-some, ← taken-is, t) (omega (arith, s .coming, s .fit .coming, depth-is))
         ]
 
-    taken-place : byteTaken (q .ring) control .place ≡ (a .first + (length (a .given) + 1) / 4) % depthOf (q .ring .kind)
+    taken-place : byteTaken (q .ring) control .place ≡ (a .first + (length (a .given) + 1) / 4) % queueDepth (q .ring .kind)
     taken-place =
-        let d = depthOf (q .ring .kind) in
-        by-test (λ (x : Ring). x .place ≡ (a .first + (length (a .given) + 1) / 4) % depthOf (q .ring .kind)) (eqb (q .ring .taken) 3)
+        let d = queueDepth (q .ring .kind) in
+        by-test (λ (x : Ring). x .place ≡ (a .first + (length (a .given) + 1) / 4) % queueDepth (q .ring .kind)) (eqb (q .ring .taken) 3)
         (λ t.
         let more : a .first + wholly a + 1 ≡ a .first + (length (a .given) + 1) / 4 = omega (arith, taken-is, eqb-true (q .ring .taken) 3 t) in
         ap (λ n. around d (n + 1)) (s .place) ∙ next-place (a .first + wholly a) (q .ring .kind) ∙ ap (λ n. n % d) more)
@@ -158,8 +158,8 @@ module _ (q : Queue) (a : Account) (s : Agree q a) where
           coming = taken-coming;
           place =
               taken-place
-              ∙ ap (λ n. (a .first + n / 4) % depthOf (q .ring .kind)) (sym (length-append (a .given) (nextByte a ∷ [])))
-              ∙ ap (λ k. (a .first + length (a .given ++ nextByte a ∷ []) / 4) % depthOf k) (sym kept);
+              ∙ ap (λ n. (a .first + n / 4) % queueDepth (q .ring .kind)) (sym (length-append (a .given) (nextByte a ∷ [])))
+              ∙ ap (λ k. (a .first + length (a .given ++ nextByte a ∷ []) / 4) % queueDepth k) (sym kept);
         }
 
 pub agree-fresh : (kind : ℕ) → Agree (freshOf kind) (opened kind)
@@ -189,5 +189,5 @@ agree-opens q f long =
       order = take-append-drop (q .ring .taken) held;
       count = omega (arith, f .count, length-held q f);
       coming = refl;
-      place = sym (mod-eq-of-lt (f .place)) ∙ ap (λ n. n % depthOf (q .ring .kind)) none;
+      place = sym (mod-eq-of-lt (f .place)) ∙ ap (λ n. n % queueDepth (q .ring .kind)) none;
     }

@@ -9,7 +9,7 @@ use lib.ListN.{length, take, length-append}
 use lib.Seq.{length-take-le}
 use Rattle.buffers.specs.Words.{bytesOf}
 use Rattle.buffers.proofs.Words.{length-bytes}
-use Rattle.queues.specs.Queue.{depthOf, freshOf, fittedOf, Fit}
+use Rattle.queues.specs.Queue.{queueDepth, freshOf, fittedOf, Fit}
 use Rattle.queues.specs.declared.Queue.{Queue}
 use Rattle.queues.proofs.Fits.{fitted-is}
 use Rattle.histories.specs.Calls.{QueueCall, made, after}
@@ -39,7 +39,7 @@ module _ (q : Queue) (long : length (q .words) ≡ 8) (cs : List QueueCall) wher
       )
 
   bounded : fittedOf (after q cs) .ring .count
-      ≤ startOf q cs .ring .count - startOf q cs .ring .held + (startOf q cs .ring .taken + length (givenBy q cs)) / 4 + depthOf (q .ring .kind)
+      ≤ startOf q cs .ring .count - startOf q cs .ring .held + (startOf q cs .ring .taken + length (givenBy q cs)) / 4 + queueDepth (q .ring .kind)
   bounded =
       let s = startOf q cs in
       let a = account (opens (fittedOf q)) cs in
@@ -51,8 +51,8 @@ module _ (q : Queue) (long : length (q .words) ≡ 8) (cs : List QueueCall) wher
       length-take-le (s .ring .taken) held (omega (arith, length-bytes (heldWords s), length-held s f, f .none)) in
       let given : length (a .given) ≡ s .ring .taken + length (givenBy q cs) =
       omega (arith, ap length (g .given), length-append (take (s .ring .taken) held) (givenBy q cs), taken) in
-      let deep : depthOf (fittedOf (after q cs) .ring .kind) ≡ depthOf (q .ring .kind) =
-      depth-is (fittedOf (after q cs)) a x ∙ ap depthOf (account-kind q long cs) in
+      let deep : queueDepth (fittedOf (after q cs) .ring .kind) ≡ queueDepth (q .ring .kind) =
+      depth-is (fittedOf (after q cs)) a x ∙ ap queueDepth (account-kind q long cs) in
       omega (arith, given, deep, x .count, g .before, x .fit .held, held-is (fittedOf (after q cs)) a x)
 
 module _ (q : Queue) (long : length (q .words) ≡ 8) (cs : List QueueCall) (c : QueueCall) where
@@ -76,7 +76,7 @@ module _ (q : Queue) (long : length (q .words) ≡ 8) (cs : List QueueCall) (c :
       made (after q cs) c .reply .count
       ≤ startOf q (c ∷ cs) .ring .count - startOf q (c ∷ cs) .ring .held
       + (startOf q (c ∷ cs) .ring .taken + length (givenBy q (c ∷ cs))) / 4
-      + depthOf (q .ring .kind)
+      + queueDepth (q .ring .kind)
   never-above =
       let told = leaves (after q cs) c .count ∙ ap (λ (x : Queue). x .ring .count) (sym left-is) in
       omega (arith, told, bounded q long (c ∷ cs))
@@ -86,7 +86,7 @@ module _ (q : Queue) (long : length (q .words) ≡ 8) (cs : List QueueCall) (c :
     pub fresh-number : made (after q cs) c .reply .count ≡ length (loadedBy q (c ∷ cs))
     fresh-number = omega (arith, number-is-loads, ap (λ (x : Queue). x .ring .count) fresh)
 
-    pub fresh-never-above : made (after q cs) c .reply .count ≤ length (givenBy q (c ∷ cs)) / 4 + depthOf (q .ring .kind)
+    pub fresh-never-above : made (after q cs) c .reply .count ≤ length (givenBy q (c ∷ cs)) / 4 + queueDepth (q .ring .kind)
     fresh-never-above =
         omega (
           arith,

@@ -7,7 +7,7 @@ use native.Mathlib.Omega.{arith}
 use lib.Dec.{eqb, ltb}
 use lib.ListN.{length}
 use Rattle.buffers.proofs.Tests.{no}
-use Rattle.queues.specs.Queue.{depthOf, freshOf, fittedOf, isFull, isEmpty, asksBit, Fit, frontByte}
+use Rattle.queues.specs.Queue.{queueDepth, freshOf, fittedOf, isFull, isEmpty, asksBit, Fit, frontByte}
 use Rattle.queues.specs.Steps.{stepOf, emptiedOf, withAsk, withWord, withoutByte, loadFit, readFit, loadOf, readOf, verticalOf, askOf, horizontalOf, endsOf}
 use Rattle.queues.specs.declared.Queue.{Queue}
 use Rattle.queues.specs.declared.Reply.{Reply}
@@ -85,8 +85,8 @@ module _ (q : Queue) where
   pub fit-kept : (c : QueueCall) → Fit (made q c .queue .ring)
   fit-kept c = leaves c .fit
 
-  pub coming-most : (c : QueueCall) → made q c .queue .ring .coming ≤ depthOf (q .ring .kind)
-  coming-most c = omega (arith, leaves c .fit .coming, ap depthOf (leaves c .kind))
+  pub coming-most : (c : QueueCall) → made q c .queue .ring .coming ≤ queueDepth (q .ring .kind)
+  coming-most c = omega (arith, leaves c .fit .coming, ap queueDepth (leaves c .kind))
 
   -- An emptying leaves a fresh record, with nothing to come.
   module _ (c : QueueCall) (e : empties (q .ring .kind) c ≡ true) where
@@ -100,7 +100,7 @@ module _ (q : Queue) where
     emptied-none = ap (λ (x : Queue). x .ring .coming) emptied-fresh ∙ rw (emptying (q .ring .kind) c e .1)
 
 -- What a call asks for is added up to the depth; a word loaded takes one off.
-comes : (a : Account) (c : QueueCall) → a .coming ≤ depthOf (a .kind) → empties (a .kind) c ≡ false
+comes : (a : Account) (c : QueueCall) → a .coming ≤ queueDepth (a .kind) → empties (a .kind) c ≡ false
     → turned a c .account .coming ≡ comingWith a (asksFor a c) - length (wordIn c (turned a c .reply .number))
 comes a (load w) h e =
     by-test (λ (t : Turn). t .account .coming ≡ comingWith a 0 - length (wordIn (load w) (t .reply .number))) (isFullBy a)
@@ -118,17 +118,17 @@ module _ (q : Queue) (long : length (q .words) ≡ 8) (cs : List QueueCall) (c :
   pub coming-rule :
       empties (q .ring .kind) c ≡ false
       → made (after q cs) c .queue .ring .coming
-      ≡ min (depthOf (q .ring .kind)) (fittedOf (after q cs) .ring .coming + asksFor (account (opens (fittedOf q)) cs) c)
+      ≡ min (queueDepth (q .ring .kind)) (fittedOf (after q cs) .ring .coming + asksFor (account (opens (fittedOf q)) cs) c)
       - length (wordIn c (made (after q cs) c .reply .number))
   coming-rule e =
       let a = account (opens (fittedOf q)) cs in
       let g = agrees q long cs in
       let s = same-turn q long cs c in
       let kind = account-kind q long cs in
-      let most : a .coming ≤ depthOf (a .kind) = omega (arith, g .fit .coming, g .coming, depth-is (fittedOf (after q cs)) a g) in
+      let most : a .coming ≤ queueDepth (a .kind) = omega (arith, g .fit .coming, g .coming, depth-is (fittedOf (after q cs)) a g) in
       s .agree .coming
       ∙ comes a c most (rw kind e)
-      ∙ ap (λ k. min (depthOf k) (a .coming + asksFor a c) - length (wordIn c (turned a c .reply .number))) kind
-      ∙ ap (λ n. min (depthOf (q .ring .kind)) (n + asksFor a c) - length (wordIn c (turned a c .reply .number))) (sym (g .coming))
-      ∙ ap (λ (r : Reply). min (depthOf (q .ring .kind)) (fittedOf (after q cs) .ring .coming + asksFor a c) - length (wordIn c (r .number)))
+      ∙ ap (λ k. min (queueDepth k) (a .coming + asksFor a c) - length (wordIn c (turned a c .reply .number))) kind
+      ∙ ap (λ n. min (queueDepth (q .ring .kind)) (n + asksFor a c) - length (wordIn c (turned a c .reply .number))) (sym (g .coming))
+      ∙ ap (λ (r : Reply). min (queueDepth (q .ring .kind)) (fittedOf (after q cs) .ring .coming + asksFor a c) - length (wordIn c (r .number)))
       (sym (s .reply))

@@ -11,7 +11,7 @@ use lib.ListN.{length, drop, getD}
 use lib.Seq.{drop-cons, drop-append-le}
 use Rattle.buffers.specs.Words.{bytesOf}
 use Rattle.buffers.proofs.Words.{length-bytes, bytes-append, bytes-at}
-use Rattle.queues.specs.Queue.{depthOf, around, isFull, Fit, frontByte}
+use Rattle.queues.specs.Queue.{queueDepth, around, isFull, Fit, frontByte}
 use Rattle.queues.specs.Steps.{ringPut, upTo, ringAsked, askedBy, byteTaken, withWord, withoutByte}
 use Rattle.queues.specs.declared.Queue.{Queue}
 use Rattle.queues.specs.declared.Ring.{Ring}
@@ -22,7 +22,7 @@ use Rattle.histories.proofs.Rings.{ring-put, length-ring}
 
 -- The bytes still to read, of a record's words and numbers.
 abbrev pub bytesIn : List ℕ → Ring → List ℕ
-bytesIn words r = drop (r .taken) (bytesOf (ringFrom words (depthOf (r .kind)) (r .place) (r .held)))
+bytesIn words r = drop (r .taken) (bytesOf (ringFrom words (queueDepth (r .kind)) (r .place) (r .held)))
 
 pub up-to-min : (limit a b : ℕ) → upTo limit a b ≡ min limit (a + b)
 up-to-min limit a b =
@@ -49,16 +49,16 @@ ring-next words d p (suc n) h = let e : suc n - 1 ≡ n = omega arith in rw e
 
 module _ (q : Queue) (f : Fit (q .ring)) where
   pub length-held : length (heldWords q) ≡ q .ring .held
-  length-held = length-ring (depthOf (q .ring .kind)) (q .words) (q .ring .place) (q .ring .held)
+  length-held = length-ring (queueDepth (q .ring .kind)) (q .words) (q .ring .place) (q .ring .held)
 
-  pub put-bytes : (w : ℕ) → length (q .words) ≡ 8 → q .ring .held < depthOf (q .ring .kind)
+  pub put-bytes : (w : ℕ) → length (q .words) ≡ 8 → q .ring .held < queueDepth (q .ring .kind)
       → bytesLeft (withWord q w) ≡ bytesLeft q ++ bytesOf (w ∷ [])
   put-bytes w long room =
       let held = bytesOf (heldWords q) in
       let enough : q .ring .taken ≤ length held = omega (arith, length-bytes (heldWords q), length-held, f .none) in
       rw (
         add-one (q .ring .held),
-        ring-put (depthOf (q .ring .kind)) (q .words) w (q .ring .place) (q .ring .held) (omega (arith, f .deep, long)) (f .place) room,
+        ring-put (queueDepth (q .ring .kind)) (q .words) w (q .ring .place) (q .ring .held) (omega (arith, f .deep, long)) (f .place) room,
         bytes-append (heldWords q) (w ∷ []),
         drop-append-le (q .ring .taken) held (bytesOf (w ∷ [])) enough,
       )
@@ -66,7 +66,7 @@ module _ (q : Queue) (f : Fit (q .ring)) where
   pub taken-bytes : (control : ℕ) → 0 < q .ring .held → bytesLeft q ≡ frontByte q ∷ bytesLeft (withoutByte q control)
   taken-bytes control some =
       let r = q .ring in
-      let d = depthOf (r .kind) in
+      let d = queueDepth (r .kind) in
       let next = ringFrom (q .words) d (around d (r .place + 1)) (r .held - 1) in
       let w = getD (q .words) (r .place) 0 in
       let held : heldWords q ≡ w ∷ next = ring-next (q .words) d (r .place) (r .held) some in
@@ -99,7 +99,7 @@ module _ (r : Ring) (f : Fit r) where
       record {
         place = f .place;
         held = f .held;
-        coming = omega (arith, up-to-min (depthOf (r .kind)) (r .coming) n);
+        coming = omega (arith, up-to-min (queueDepth (r .kind)) (r .coming) n);
         taken = f .taken;
         none = f .none;
         count = f .count;
@@ -111,7 +111,7 @@ taken-kind r control = by-test (λ (x : Ring). x .kind ≡ r .kind) (eqb (r .tak
 
 pub taken-fit : (r : Ring) → Fit r → (control : ℕ) → 0 < r .held → Fit (byteTaken r control)
 taken-fit r f control some =
-    let d = depthOf (r .kind) in
+    let d = queueDepth (r .kind) in
     let next : Ring = record { kind = r .kind; taken = 0; place = around d (r .place + 1); held = r .held - 1; coming = r .coming; count = r .count } in
     let freed : Fit next =
     record {

@@ -8,7 +8,7 @@ use borrow.Author.Tests.{leb-true, le-leb, eqb-true, eq-eqb}
 use lib.Dec.{eqb, leb}
 use Rattle.buffers.specs.Pick.{pick}
 use Rattle.buffers.proofs.Tests.{or-split, or-left, or-right, no}
-use Rattle.queues.specs.Queue.{depthOf, fittedOf, isFull, isEmpty}
+use Rattle.queues.specs.Queue.{queueDepth, fittedOf, isFull, isEmpty}
 use Rattle.queues.specs.Steps.{loadFit, readFit, loadOf, readOf, verticalOf, askOf, horizontalOf, endsOf}
 use Rattle.queues.specs.declared.Queue.{Queue}
 use Rattle.queues.specs.declared.Step.{Step}
@@ -41,22 +41,22 @@ module _ (q : Queue) where
   refused-unchanged (horizontal g y) e = absurd (no e)
   refused-unchanged (ends g y) e = absurd (no e)
 
-  full-is-full : isFull (fittedOf q .ring) ≡ true ↔ (fittedOf q .ring .held ≡ depthOf (q .ring .kind)) ⊎ (fittedOf q .ring .count ≡ 2 ^ 64 - 1)
+  full-is-full : isFull (fittedOf q .ring) ≡ true ↔ (fittedOf q .ring .held ≡ queueDepth (q .ring .kind)) ⊎ (fittedOf q .ring .count ≡ 2 ^ 64 - 1)
   full-is-full =
       let r = fittedOf q .ring in
-      let d = depthOf (r .kind) in
-      let same = ap depthOf (fitted-kind q) in
+      let d = queueDepth (r .kind) in
+      let same = ap queueDepth (fitted-kind q) in
       let full = leb d (r .held) in
       let most = eqb (r .count) (2 ^ 64 - 1) in
-      let known : (full ≡ true) ⊎ (most ≡ true) → (r .held ≡ depthOf (q .ring .kind)) ⊎ (r .count ≡ 2 ^ 64 - 1) =
+      let known : (full ≡ true) ⊎ (most ≡ true) → (r .held ≡ queueDepth (q .ring .kind)) ⊎ (r .count ≡ 2 ^ 64 - 1) =
       ⊎-elim (λ f. inl (omega (arith, leb-true d (r .held) f, fitted-fit q .held, same))) (λ m. inr (eqb-true (r .count) (2 ^ 64 - 1) m)) in
-      let tested : (r .held ≡ depthOf (q .ring .kind)) ⊎ (r .count ≡ 2 ^ 64 - 1) → full || most ≡ true =
+      let tested : (r .held ≡ queueDepth (q .ring .kind)) ⊎ (r .count ≡ 2 ^ 64 - 1) → full || most ≡ true =
       ⊎-elim (λ f. or-left most (le-leb d (r .held) (omega (arith, same)))) (λ m. or-right full (eq-eqb (r .count) (2 ^ 64 - 1) m)) in
       (λ e. known (or-split full most e), tested)
 
   -- Full: as many words are held as the queue is deep.
   pub load-refused : (w : ℕ)
-      → made q (load w) .reply .number ≡ 16 ↔ (fittedOf q .ring .held ≡ depthOf (q .ring .kind)) ⊎ (fittedOf q .ring .count ≡ 2 ^ 64 - 1)
+      → made q (load w) .reply .number ≡ 16 ↔ (fittedOf q .ring .held ≡ queueDepth (q .ring .kind)) ⊎ (fittedOf q .ring .count ≡ 2 ^ 64 - 1)
   load-refused w =
       let told = exactly (isFull (fittedOf q .ring)) 16 (λ e. omega arith) in
       (λ e. full-is-full .0 (told .0 (sym (number-told (load w)) ∙ e)), λ f. number-told (load w) ∙ told .1 (full-is-full .1 f))

@@ -7,7 +7,7 @@ use lib.ListN.{length, getD}
 use Rattle.buffers.specs.Bits.{bits}
 use Rattle.buffers.specs.Pick.{pick}
 use Rattle.buffers.specs.Words.{bytesOf}
-use Rattle.queues.specs.Queue.{depthOf, firstComing}
+use Rattle.queues.specs.Queue.{queueDepth, firstComing}
 use Rattle.queues.specs.Syncs.{cursorAsk, videoAsk}
 use Rattle.queues.specs.declared.Reply.{Reply}
 use Rattle.histories.specs.Calls.{QueueCall, load, read, vertical, ask, horizontal, ends, Answered}
@@ -41,7 +41,7 @@ nextByte a = getD (bytesOf (a .loaded)) (length (a .given)) 0
 
 -- 16: a load into a full queue, or with the count at its largest. 17: a read from an empty one.
 abbrev pub isFullBy : Account → Bool
-isFullBy a = leb (depthOf (a .kind)) (holds a) || eqb (countOf a) (2 ^ 64 - 1)
+isFullBy a = leb (queueDepth (a .kind)) (holds a) || eqb (countOf a) (2 ^ 64 - 1)
 
 abbrev pub isEmptyBy : Account → Bool
 isEmptyBy a = eqb (holds a) 0
@@ -65,7 +65,7 @@ asksFor a (ends g y) = pick (eqb (a .kind) 0) (videoAsk g y) 0
 
 -- An ask adds to the words still to come, up to the depth.
 abbrev pub comingWith : Account → ℕ → ℕ
-comingWith a words = min (depthOf (a .kind)) (a .coming + words)
+comingWith a words = min (queueDepth (a .kind)) (a .coming + words)
 
 -- A word loaded takes one off the words still to come, if any.
 abbrev pub withLoaded : Account → ℕ → Account

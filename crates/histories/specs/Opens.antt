@@ -3,7 +3,7 @@ use Prim.Native.Nat.{ℕ, zero, suc, _+_, _-_}
 use mathlib.Core.List.{List, [], _∷_}
 use lib.ListN.{getD, take, drop}
 use Rattle.buffers.specs.Words.{bytesOf}
-use Rattle.queues.specs.Queue.{depthOf, around}
+use Rattle.queues.specs.Queue.{queueDepth, around}
 use Rattle.queues.specs.declared.Queue.{Queue}
 use Rattle.histories.specs.Account.{Account}
 
@@ -13,7 +13,7 @@ ringFrom words depth place zero = []
 ringFrom words depth place (suc n) = getD words place 0 ∷ ringFrom words depth (around depth (place + 1)) n
 
 abbrev pub heldWords : Queue → List ℕ
-heldWords q = ringFrom (q .words) (depthOf (q .ring .kind)) (q .ring .place) (q .ring .held)
+heldWords q = ringFrom (q .words) (queueDepth (q .ring .kind)) (q .ring .place) (q .ring .held)
 
 -- The bytes still to read.
 abbrev pub bytesLeft : Queue → List ℕ

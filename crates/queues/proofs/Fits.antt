@@ -9,7 +9,7 @@ use lib.Dec.{eqb, ltb, leb}
 use Rattle.buffers.specs.Pick.{pick}
 use Rattle.buffers.proofs.Tests.{and-split, and-join, or-split, or-left, or-right}
 use Rattle.buffers.proofs.Split.{true-or-false, lt-or-le}
-use Rattle.queues.specs.Queue.{depthOf, firstComing, freshRing, freshOf, isFit, Fit, fittedOf}
+use Rattle.queues.specs.Queue.{queueDepth, firstComing, freshRing, freshOf, isFit, Fit, fittedOf}
 use Rattle.queues.specs.declared.Queue.{Queue}
 use Rattle.queues.specs.declared.Ring.{Ring}
 
@@ -18,10 +18,10 @@ pub by-test : {A : Type 0} (P : A → Type 0) (t : Bool) {x y : A} → (t ≡ tr
 by-test P true p q = p refl
 by-test P false p q = q refl
 
-pub deep-least : (kind : ℕ) → 4 ≤ depthOf kind
+pub deep-least : (kind : ℕ) → 4 ≤ queueDepth kind
 deep-least kind = by-test (λ d. 4 ≤ d) (eqb kind 0) (λ e. omega arith) (λ e. omega arith)
 
-pub deep-most : (kind : ℕ) → depthOf kind ≤ 8
+pub deep-most : (kind : ℕ) → queueDepth kind ≤ 8
 deep-most kind = by-test (λ d. d ≤ 8) (eqb kind 0) (λ e. omega arith) (λ e. omega arith)
 
 none-left : (taken held : ℕ) → taken < 4 → (eqb taken 0 || ltb 0 held) ≡ true → taken ≤ 3 * held
@@ -39,7 +39,7 @@ left-none taken held h = elim (lt-or-le 0 held) [
 module _ (r : Ring) where
   pub fit-of : isFit r ≡ true → Fit r
   fit-of e =
-      let d = depthOf (r .kind) in
+      let d = queueDepth (r .kind) in
       let place = ltb (r .place) d in
       let held = leb (r .held) d in
       let coming = leb (r .coming) d in
@@ -63,7 +63,7 @@ module _ (r : Ring) where
 
   pub is-fit : Fit r → isFit r ≡ true
   is-fit f =
-      let d = depthOf (r .kind) in
+      let d = queueDepth (r .kind) in
       and-join
       (and-join
       (and-join

@@ -3,3 +3,4 @@ pub mod Counts
 pub mod Thin
 pub mod Loan
 pub mod Unique
+pub mod Told

@@ -70,14 +70,14 @@ one-lent means = record {
   one = λ κs a x y s t p q. (p .1 ∙ sym (q .1), p .0 ∙ sym (q .0));
 }
 
-pub one-load : OneLent load.ended (λ M 𝓤. load.clauses 𝓤) (λ κs s. now (s .0))
-one-load = one-lent loadOf
+pub one-queue-load : OneLent load.ended (λ M 𝓤. load.clauses 𝓤) (λ κs s. now (s .0))
+one-queue-load = one-lent loadOf
 
-pub one-read : OneLent read.ended (λ M 𝓤. read.clauses 𝓤) (λ κs s. now (s .0))
-one-read = one-lent readOf
+pub one-queue-read : OneLent read.ended (λ M 𝓤. read.clauses 𝓤) (λ κs s. now (s .0))
+one-queue-read = one-lent readOf
 
-pub one-vertical-sync : OneLent vertical-sync.ended (λ M 𝓤. vertical-sync.clauses 𝓤) (λ κs s. now (s .0))
-one-vertical-sync = one-lent verticalOf
+pub one-queue-vertical-sync : OneLent vertical-sync.ended (λ M 𝓤. vertical-sync.clauses 𝓤) (λ κs s. now (s .0))
+one-queue-vertical-sync = one-lent verticalOf
 
-pub one-ask : OneLent ask.ended (λ M 𝓤. ask.clauses 𝓤) (λ κs s. now (s .0))
-one-ask = one-lent askOf
+pub one-queue-ask : OneLent ask.ended (λ M 𝓤. ask.clauses 𝓤) (λ κs s. now (s .0))
+one-queue-ask = one-lent askOf

@@ -9,8 +9,8 @@ use Rattle.queues.specs.declared.Queue.{Queue}
 use Rattle.queues.specs.declared.Ring.{Ring}
 
 -- Video eight words, cursor and sound four.
-abbrev pub depthOf : ℕ → ℕ
-depthOf kind = pick (eqb kind 0) 8 4
+abbrev pub queueDepth : ℕ → ℕ
+queueDepth kind = pick (eqb kind 0) 8 4
 
 -- Sound asks for four when fresh.
 abbrev pub firstComing : ℕ → ℕ
@@ -25,22 +25,22 @@ freshOf kind = record { words = replicate 8 0; ring = freshRing kind }
 -- The place inside the queue; words held and words to come at most its depth; no byte read of a word not held; the count not below the words held.
 abbrev pub isFit : Ring → Bool
 isFit r =
-    ltb (r .place) (depthOf (r .kind))
-    && leb (r .held) (depthOf (r .kind))
-    && leb (r .coming) (depthOf (r .kind))
+    ltb (r .place) (queueDepth (r .kind))
+    && leb (r .held) (queueDepth (r .kind))
+    && leb (r .coming) (queueDepth (r .kind))
     && ltb (r .taken) 4
     && (eqb (r .taken) 0 || ltb 0 (r .held))
     && leb (r .held) (r .count)
 
 -- The same as facts; the fifth says that nothing is taken where nothing is held.
 pub record Fit (r : Ring) : Type 0 where
-  pub place : r .place < depthOf (r .kind)
-  pub held : r .held ≤ depthOf (r .kind)
-  pub coming : r .coming ≤ depthOf (r .kind)
+  pub place : r .place < queueDepth (r .kind)
+  pub held : r .held ≤ queueDepth (r .kind)
+  pub coming : r .coming ≤ queueDepth (r .kind)
   pub taken : r .taken < 4
   pub none : r .taken ≤ 3 * r .held
   pub count : r .held ≤ r .count
-  pub deep : depthOf (r .kind) ≤ 8
+  pub deep : queueDepth (r .kind) ≤ 8
 
 -- One that is not fit is replaced by a fresh one of its kind.
 unfoldable pub fittedOf : Queue → Queue
@@ -48,7 +48,7 @@ fittedOf q = pick (isFit (q .ring)) q (freshOf (q .ring .kind))
 
 -- Nothing goes into a full queue, nor where the count is at its largest.
 abbrev pub isFull : Ring → Bool
-isFull r = leb (depthOf (r .kind)) (r .held) || eqb (r .count) (2 ^ 64 - 1)
+isFull r = leb (queueDepth (r .kind)) (r .held) || eqb (r .count) (2 ^ 64 - 1)
 
 abbrev pub isEmpty : Ring → Bool
 isEmpty r = eqb (r .held) 0

@@ -1,17 +1,20 @@
 -- What each call makes of a queue, and what it answers.
 use Prim.Native.Nat.{ℕ, _+_, _*_, _-_, _%_, _<_}
 use mathlib.Core.Bool.{_&&_}
+use mathlib.Core.List.{List, [], _∷_}
 use lib.Dec.{eqb, ltb}
 use lib.ListN.{set}
 use Rattle.buffers.specs.Pick.{pick}
 use Rattle.buffers.specs.Bits.{bits}
+use Rattle.refusals.specs.Table.{Told, given, refused, why, Row, row}
 use Rattle.refusals.specs.Refusals.{whyOf}
 use Rattle.refusals.specs.declared.Refusal.{Refusal}
 use Rattle.refusals.specs.declared.Refusal.the-variants.{Full, Empty}
 use Rattle.registers.specs.declared.record.Registers.{Registers}
-use Rattle.queues.specs.Queue.{depthOf, freshOf, fittedOf, isFull, isEmpty, asksBit, around, frontByte}
+use Rattle.queues.specs.Queue.{queueDepth, freshOf, fittedOf, isFull, isEmpty, asksBit, around, frontByte}
 use Rattle.queues.specs.Syncs.{cursorAsk, videoAsk}
 use Rattle.queues.specs.declared.Queue.{Queue}
+use Rattle.queues.specs.declared.Reply.{Reply}
 use Rattle.queues.specs.declared.Ring.{Ring}
 use Rattle.queues.specs.declared.Step.{Step}
 
@@ -27,7 +30,7 @@ refusedStep q why = stepOf q (whyOf why .number) 0
 
 -- The place behind the last word held.
 abbrev pub behind : Ring → ℕ
-behind r = around (depthOf (r .kind)) (r .place + r .held)
+behind r = around (queueDepth (r .kind)) (r .place + r .held)
 
 -- A load takes one off the words still to come, if any.
 abbrev pub ringPut : Ring → Ring
@@ -43,7 +46,7 @@ upTo limit a b = pick (ltb limit (a + b)) limit (a + b)
 
 abbrev pub ringAsked : Ring → ℕ → Ring
 ringAsked r n =
-    record { kind = r .kind; taken = r .taken; place = r .place; held = r .held; coming = upTo (depthOf (r .kind)) (r .coming) n; count = r .count }
+    record { kind = r .kind; taken = r .taken; place = r .place; held = r .held; coming = upTo (queueDepth (r .kind)) (r .coming) n; count = r .count }
 
 -- Video asks for four at the end of the words whose place control bits 5-4 choose, sound when its last byte is read.
 abbrev pub askedBy : Ring → ℕ → ℕ
@@ -54,7 +57,7 @@ askedBy r control =
 abbrev pub wordDone : Ring → ℕ → Ring
 wordDone r control =
     ringAsked
-    (record { kind = r .kind; taken = 0; place = around (depthOf (r .kind)) (r .place + 1); held = r .held - 1; coming = r .coming; count = r .count })
+    (record { kind = r .kind; taken = 0; place = around (queueDepth (r .kind)) (r .place + 1); held = r .held - 1; coming = r .coming; count = r .count })
     (askedBy r control)
 
 abbrev pub byteTaken : Ring → ℕ → Ring
@@ -72,6 +75,17 @@ loadFit q w = pick (isFull (q .ring)) (refusedStep q Full) (done (withWord q w) 
 
 unfoldable pub readFit : Queue → ℕ → Step
 readFit q control = pick (isEmpty (q .ring)) (refusedStep q Empty) (done (withoutByte q control) (frontByte q))
+
+-- What a load and a read refuse, of the record that they go on with.
+abbrev pub loadTable : Queue → List Row
+loadTable q = row 16 (isFull (fittedOf q .ring)) 0 ∷ []
+
+abbrev pub readTable : Queue → List Row
+readTable q = row 17 (isEmpty (fittedOf q .ring)) 0 ∷ []
+
+-- What a reply tells: the byte, or why the call is refused.
+abbrev pub replySays : Reply → Told ℕ
+replySays r = pick (eqb (r .number) 0) (given (r .byte)) (refused (why (r .number) 0))
 
 -- The calls: one that is not fit is first replaced by a fresh one, even on refusal.
 unfoldable pub loadOf : Queue → ℕ → Step

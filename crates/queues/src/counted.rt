@@ -4,7 +4,7 @@ ghost use mathlib.Core.Path.{_≡_};
 ghost use mathlib.Core.Bool.{Bool, false};
 ghost use Prim.Native.Nat.{_<_, _≤_, _+_};
 ghost use Rattle.buffers.specs.Pick.{pick};
-ghost use Rattle.queues.specs.Queue.{depthOf, firstComing, around, isFit, Fit, isFull, isEmpty, asksBit};
+ghost use Rattle.queues.specs.Queue.{queueDepth, firstComing, around, isFit, Fit, isFull, isEmpty, asksBit};
 ghost use Rattle.queues.specs.Steps.{behind, ringPut, upTo, askedBy, ringAsked, wordDone, byteTaken};
 
 // A place around the end of a ring.
@@ -41,7 +41,7 @@ fn up_to(limit: u32, a: u32, b: u32) -> u32
 impl Ring {
     // How many words a queue holds.
     pub(crate) fn depth(self) -> u32
-        ensures { λ r. ⌜ r ≡ depthOf (self .kind) ⌝ }
+        ensures { λ r. ⌜ r ≡ queueDepth (self .kind) ⌝ }
     {
         if self.kind == 0 {
             return 8;
