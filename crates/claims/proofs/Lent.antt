@@ -1,8 +1,6 @@
 -- Demand 1 for the calls on a queue: 16 and 17 exactly when their rule says; refused, a call leaves the record that it went on with.
 use Prim.Native.Nat.{ℕ}
-use mathlib.Core.Path.{_≡_, refl, sym, _∙_, ap}
-use mathlib.Core.List.{[], _∷_}
-use Rattle.refusals.specs.Table.{Told, judged, unlessRefused}
+use mathlib.Core.Path.{_≡_, refl, _∙_, ap}
 use Rattle.queues.specs.Queue.{fittedOf, frontByte}
 use Rattle.queues.specs.Steps.{loadOf, readOf, verticalOf, askOf, loadTable, readTable, replySays, withWord, withoutByte}
 use Rattle.queues.specs.declared.Queue.{Queue}
@@ -13,7 +11,7 @@ use Rattle.vombelishi.proofs.queued.vom_queue_load as vom-queue-load
 use Rattle.vombelishi.proofs.queued.vom_queue_read as vom-queue-read
 use Rattle.vombelishi.proofs.queued.vom_queue_vertical_sync as vom-queue-vertical-sync
 use Rattle.vombelishi.proofs.queued.vom_queue_ask as vom-queue-ask
-use Rattle.claims.specs.Calls.{Every, numbers, ByTable, Kept}
+use Rattle.claims.specs.Calls.{Every, ByTable, Kept}
 use Rattle.claims.specs.Lent.{QueueRun, queueLoad, queueRead, Promises, EveryLent}
 use Rattle.claims.proofs.Tables.{by-table, kept}
 

@@ -1,7 +1,7 @@
 -- What the bench does next, by whether the raster is finished once the last call is counted.
 use mathlib.Core.Bool.{true, false}
 use mathlib.Core.List.{List}
-use mathlib.Core.Path.{_≡_, refl}
+use mathlib.Core.Path.{_≡_}
 use Prim.Native.Nat.{ℕ}
 use Rattle.queues.specs.declared.Reply.{Reply}
 use Rattle.live.specs.Bench.{countedOf, blockOf, isFinished, nextRaster, chosenOf, noted, soFar, nextOf, toldOf}

@@ -1,11 +1,10 @@
 -- What a queue's numbers allow: a full one is told by its words or its count, a word's place lies inside, nothing is taken of an empty one.
 use Prim.Native.Nat.{ℕ, _+_, _-_, _*_, _^_, _<_, _≤_}
-use mathlib.Core.Bool.{Bool, true, false, _||_}
-use mathlib.Core.Path.{_≡_, refl}
+use mathlib.Core.Bool.{false}
+use mathlib.Core.Path.{_≡_}
 use native.Mathlib.Omega.{arith}
 use borrow.Author.Tests.{ltb-true, ltb-false, eqb-false, leb-false}
 use lib.Dec.{eqb, ltb, leb}
-use Rattle.buffers.specs.Pick.{pick}
 use Rattle.buffers.proofs.Tests.{or-neither}
 use Rattle.queues.specs.Queue.{queueDepth, around, Fit, isFull, isEmpty}
 use Rattle.queues.specs.Steps.{behind}

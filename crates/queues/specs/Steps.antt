@@ -1,5 +1,5 @@
 -- What each call makes of a queue, and what it answers.
-use Prim.Native.Nat.{ℕ, _+_, _*_, _-_, _%_, _<_}
+use Prim.Native.Nat.{ℕ, _+_, _-_, _%_}
 use mathlib.Core.Bool.{_&&_}
 use mathlib.Core.List.{List, [], _∷_}
 use lib.Dec.{eqb, ltb}

@@ -26,8 +26,9 @@ same-length c = search needs
 returns : tie.Need-returns
 returns c =
     let start = c .before .before .before .before .before .before .before .before .before .before .before in
+    let tested = c .before .before .before .before .before in
     let done = next-finished (start .args .b) _ _ (start .args .reply) (start .args .words .now) (start .args .told .now)
-    (c .before .before .before .before .before .before .before .before .counted .ensures) (c .before .before .before .before .before .before .before .with-block .ensures) (sym (c .before .before .before .before .before .before .is-finished .ensures) ∙ c .before .before .before .before .before .if1 .taken) in
+    (tested .before .before .before .counted .ensures) (tested .before .before .with-block .ensures) (sym (tested .before .is-finished .ensures) ∙ tested .if1 .taken) in
     (c .next-raster .ensures ∙ done .0, c .before .before .before .note .ensures ∙ done .1)
 
 chosen-requires : tie.Need-chosen-requires
@@ -39,8 +40,9 @@ same-length-2 c = search needs
 returns-2 : tie.Need-returns-2
 returns-2 c =
     let start = c .before .before .before .before .before .before .before .before in
+    let tested = c .before .before in
     let done = next-chosen (start .args .b) _ _ (start .args .reply) (start .args .words .now) (start .args .told .now)
-    (c .before .before .before .before .before .counted .ensures) (c .before .before .before .before .with-block .ensures) (sym (c .before .before .before .is-finished .ensures) ∙ c .before .before .if1 .left) in
+    (tested .before .before .before .counted .ensures) (tested .before .before .with-block .ensures) (sym (tested .before .is-finished .ensures) ∙ tested .if1 .left) in
     (c .chosen .ensures ∙ done .0, done .1)
 
 pub next-spec : {M : Type 1} → statement M

@@ -3,11 +3,6 @@ use Rattle.queues.specs.Steps.{askOf}
 use borrow.Author.Needs.{needs}
 use Rattle.queues.proofs.Queue.ask.Statement.{statement}
 use Rattle.queues.proofs.Queue.ask.Tie as tie
-use Rattle.queues.proofs.Queue.ask.Reads as reads
-use Rattle.queues.proofs.Queue.ask.Lts as lts
-use Rattle.queues.proofs.Queue.fitted.Reads as fitted-reads
-use Rattle.queues.proofs.Ring.asked.Reads as asked-reads
-use Rattle.queues.proofs.steps.answered.Reads as answered-reads
 
 fitted-requires : tie.Need-fitted-requires
 fitted-requires c κs = search needs

@@ -3,9 +3,6 @@ use borrow.Author.Tests.{lt-ltb, le-ltb}
 use borrow.Author.Needs.{needs}
 use Rattle.queues.proofs.Queue.emptied.Statement.{statement}
 use Rattle.queues.proofs.Queue.emptied.Tie as tie
-use Rattle.queues.proofs.Queue.emptied.Reads as reads
-use Rattle.queues.proofs.Queue.emptied.Lts as lts
-use Rattle.queues.proofs.Queue.fresh.Reads as fresh-reads
 
 returns : tie.Need-returns
 returns c = simp (lt-ltb _ _ (c .if1 .taken))

@@ -3,10 +3,6 @@ use borrow.Author.Needs.{needs}
 use Rattle.queues.specs.Queue.{fittedOf}
 use Rattle.queues.proofs.Queue.fitted.Statement.{statement}
 use Rattle.queues.proofs.Queue.fitted.Tie as tie
-use Rattle.queues.proofs.Queue.fitted.Reads as reads
-use Rattle.queues.proofs.Queue.fitted.Lts as lts
-use Rattle.queues.proofs.Queue.fresh.Reads as fresh-reads
-use Rattle.queues.proofs.Ring.is_fit.Reads as is-fit-reads
 
 is-fit-requires : tie.Need-is-fit-requires
 is-fit-requires c κs = search needs

@@ -2,9 +2,6 @@
 use borrow.Author.Needs.{needs}
 use Rattle.queues.proofs.Queue.fresh.Statement.{statement}
 use Rattle.queues.proofs.Queue.fresh.Tie as tie
-use Rattle.queues.proofs.Queue.fresh.Reads as reads
-use Rattle.queues.proofs.Queue.fresh.Lts as lts
-use Rattle.queues.proofs.counted.words_if.Reads as words-if-reads
 
 words-if-requires : tie.Need-words-if-requires
 words-if-requires c κs = search needs

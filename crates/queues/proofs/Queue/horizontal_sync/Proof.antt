@@ -4,10 +4,6 @@ use borrow.Author.Tests.{eq-eqb, ne-eqb}
 use borrow.Author.Needs.{needs}
 use Rattle.queues.proofs.Queue.horizontal_sync.Statement.{statement}
 use Rattle.queues.proofs.Queue.horizontal_sync.Tie as tie
-use Rattle.queues.proofs.Queue.horizontal_sync.Reads as reads
-use Rattle.queues.proofs.Queue.horizontal_sync.Lts as lts
-use Rattle.queues.proofs.Queue.ask.Reads as ask-reads
-use Rattle.queues.proofs.syncs.cursor_ask.Reads as cursor-ask-reads
 
 cursor-ask-requires : tie.Need-cursor-ask-requires
 cursor-ask-requires c κs = search needs

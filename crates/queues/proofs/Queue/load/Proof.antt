@@ -4,10 +4,6 @@ use Rattle.queues.proofs.Fits.{fitted-fit}
 use borrow.Author.Needs.{needs}
 use Rattle.queues.proofs.Queue.load.Statement.{statement}
 use Rattle.queues.proofs.Queue.load.Tie as tie
-use Rattle.queues.proofs.Queue.load.Reads as reads
-use Rattle.queues.proofs.Queue.load.Lts as lts
-use Rattle.queues.proofs.Queue.fitted.Reads as fitted-reads
-use Rattle.queues.proofs.Queue.load_fit.Reads as load-fit-reads
 
 fitted-requires : tie.Need-fitted-requires
 fitted-requires c κs = search needs

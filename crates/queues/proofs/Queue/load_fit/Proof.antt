@@ -1,18 +1,10 @@
 -- A full queue refuses; else the word stands behind those held, and the counts follow.
 use Rattle.queues.specs.Steps.{loadFit}
 use mathlib.Core.Path.{sym, _∙_}
-use native.Mathlib.Omega.{arith}
 use Rattle.queues.proofs.Counts.{behind-lt}
 use borrow.Author.Needs.{needs}
 use Rattle.queues.proofs.Queue.load_fit.Statement.{statement}
 use Rattle.queues.proofs.Queue.load_fit.Tie as tie
-use Rattle.queues.proofs.Queue.load_fit.Reads as reads
-use Rattle.queues.proofs.Queue.load_fit.Lts as lts
-use Rattle.queues.proofs.Ring.behind.Reads as behind-reads
-use Rattle.queues.proofs.Ring.is_full.Reads as is-full-reads
-use Rattle.queues.proofs.Ring.put.Reads as put-reads
-use Rattle.queues.proofs.steps.answered.Reads as answered-reads
-use Rattle.refusals.proofs.Refusal.number.Reads as number-reads
 
 is-full-requires : tie.Need-is-full-requires
 is-full-requires c κs = search needs

@@ -4,10 +4,6 @@ use Rattle.queues.proofs.Fits.{fitted-fit}
 use borrow.Author.Needs.{needs}
 use Rattle.queues.proofs.Queue.read.Statement.{statement}
 use Rattle.queues.proofs.Queue.read.Tie as tie
-use Rattle.queues.proofs.Queue.read.Reads as reads
-use Rattle.queues.proofs.Queue.read.Lts as lts
-use Rattle.queues.proofs.Queue.fitted.Reads as fitted-reads
-use Rattle.queues.proofs.Queue.read_fit.Reads as read-fit-reads
 
 fitted-requires : tie.Need-fitted-requires
 fitted-requires c κs = search needs

@@ -4,13 +4,6 @@ use mathlib.Core.Path.{sym, _∙_}
 use borrow.Author.Needs.{needs}
 use Rattle.queues.proofs.Queue.read_fit.Statement.{statement}
 use Rattle.queues.proofs.Queue.read_fit.Tie as tie
-use Rattle.queues.proofs.Queue.read_fit.Reads as reads
-use Rattle.queues.proofs.Queue.read_fit.Lts as lts
-use Rattle.queues.proofs.Queue.front.Reads as front-reads
-use Rattle.queues.proofs.Ring.byte_taken.Reads as byte-taken-reads
-use Rattle.queues.proofs.Ring.is_empty.Reads as is-empty-reads
-use Rattle.queues.proofs.steps.answered.Reads as answered-reads
-use Rattle.refusals.proofs.Refusal.number.Reads as number-reads
 
 is-empty-requires : tie.Need-is-empty-requires
 is-empty-requires c κs = search needs

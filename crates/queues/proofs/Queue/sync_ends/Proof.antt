@@ -4,10 +4,6 @@ use borrow.Author.Tests.{eq-eqb, ne-eqb}
 use borrow.Author.Needs.{needs}
 use Rattle.queues.proofs.Queue.sync_ends.Statement.{statement}
 use Rattle.queues.proofs.Queue.sync_ends.Tie as tie
-use Rattle.queues.proofs.Queue.sync_ends.Reads as reads
-use Rattle.queues.proofs.Queue.sync_ends.Lts as lts
-use Rattle.queues.proofs.Queue.ask.Reads as ask-reads
-use Rattle.queues.proofs.syncs.video_ask.Reads as video-ask-reads
 
 video-ask-requires : tie.Need-video-ask-requires
 video-ask-requires c κs = search needs

@@ -4,11 +4,6 @@ use borrow.Author.Tests.{eq-eqb, ne-eqb}
 use borrow.Author.Needs.{needs}
 use Rattle.queues.proofs.Queue.vertical_sync.Statement.{statement}
 use Rattle.queues.proofs.Queue.vertical_sync.Tie as tie
-use Rattle.queues.proofs.Queue.vertical_sync.Reads as reads
-use Rattle.queues.proofs.Queue.vertical_sync.Lts as lts
-use Rattle.queues.proofs.Queue.emptied.Reads as emptied-reads
-use Rattle.queues.proofs.Queue.fitted.Reads as fitted-reads
-use Rattle.queues.proofs.steps.answered.Reads as answered-reads
 
 fitted-requires : tie.Need-fitted-requires
 fitted-requires c κs = search needs

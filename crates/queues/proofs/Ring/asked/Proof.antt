@@ -2,10 +2,6 @@
 use borrow.Author.Needs.{needs}
 use Rattle.queues.proofs.Ring.asked.Statement.{statement}
 use Rattle.queues.proofs.Ring.asked.Tie as tie
-use Rattle.queues.proofs.Ring.asked.Reads as reads
-use Rattle.queues.proofs.Ring.asked.Lts as lts
-use Rattle.queues.proofs.Ring.depth.Reads as depth-reads
-use Rattle.queues.proofs.counted.up_to.Reads as up-to-reads
 
 depth-requires : tie.Need-depth-requires
 depth-requires c κs = search needs

@@ -3,9 +3,6 @@ use borrow.Author.Tests.{eq-eqb, ne-eqb}
 use borrow.Author.Needs.{needs}
 use Rattle.queues.proofs.Ring.asked_by.Statement.{statement}
 use Rattle.queues.proofs.Ring.asked_by.Tie as tie
-use Rattle.queues.proofs.Ring.asked_by.Reads as reads
-use Rattle.queues.proofs.Ring.asked_by.Lts as lts
-use Rattle.queues.proofs.counted.words_if.Reads as words-if-reads
 
 words-if-requires : tie.Need-words-if-requires
 words-if-requires c κs = search needs

@@ -2,8 +2,6 @@
 use borrow.Author.Tests.{le-leb, lt-leb}
 use Rattle.queues.proofs.Ring.asks.Statement.{statement}
 use Rattle.queues.proofs.Ring.asks.Tie as tie
-use Rattle.queues.proofs.Ring.asks.Reads as reads
-use Rattle.queues.proofs.Ring.asks.Lts as lts
 
 returns : tie.Need-returns
 returns c = simp (le-leb _ _ (c .if1 .taken))

@@ -2,10 +2,6 @@
 use borrow.Author.Needs.{needs}
 use Rattle.queues.proofs.Ring.behind.Statement.{statement}
 use Rattle.queues.proofs.Ring.behind.Tie as tie
-use Rattle.queues.proofs.Ring.behind.Reads as reads
-use Rattle.queues.proofs.Ring.behind.Lts as lts
-use Rattle.queues.proofs.Ring.depth.Reads as depth-reads
-use Rattle.queues.proofs.counted.around.Reads as around-reads
 
 depth-requires : tie.Need-depth-requires
 depth-requires c κs = search needs

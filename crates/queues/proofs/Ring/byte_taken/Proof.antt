@@ -3,9 +3,6 @@ use borrow.Author.Tests.{eq-eqb, ne-eqb}
 use borrow.Author.Needs.{needs}
 use Rattle.queues.proofs.Ring.byte_taken.Statement.{statement}
 use Rattle.queues.proofs.Ring.byte_taken.Tie as tie
-use Rattle.queues.proofs.Ring.byte_taken.Reads as reads
-use Rattle.queues.proofs.Ring.byte_taken.Lts as lts
-use Rattle.queues.proofs.Ring.word_done.Reads as word-done-reads
 
 word-done-requires : tie.Need-word-done-requires
 word-done-requires c κs = search needs

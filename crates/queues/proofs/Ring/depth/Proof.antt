@@ -2,8 +2,6 @@
 use borrow.Author.Tests.{eq-eqb, ne-eqb}
 use Rattle.queues.proofs.Ring.depth.Statement.{statement}
 use Rattle.queues.proofs.Ring.depth.Tie as tie
-use Rattle.queues.proofs.Ring.depth.Reads as reads
-use Rattle.queues.proofs.Ring.depth.Lts as lts
 
 returns : tie.Need-returns
 returns c = simp (eq-eqb _ _ (c .if1 .taken))

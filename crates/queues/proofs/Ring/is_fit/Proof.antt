@@ -2,9 +2,6 @@
 use borrow.Author.Needs.{needs}
 use Rattle.queues.proofs.Ring.is_fit.Statement.{statement}
 use Rattle.queues.proofs.Ring.is_fit.Tie as tie
-use Rattle.queues.proofs.Ring.is_fit.Reads as reads
-use Rattle.queues.proofs.Ring.is_fit.Lts as lts
-use Rattle.queues.proofs.Ring.depth.Reads as depth-reads
 
 depth-requires : tie.Need-depth-requires
 depth-requires c κs = search needs

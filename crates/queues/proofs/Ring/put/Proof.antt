@@ -6,8 +6,6 @@ use Rattle.queues.proofs.Counts.{counts-on}
 use borrow.Author.Needs.{needs}
 use Rattle.queues.proofs.Ring.put.Statement.{statement}
 use Rattle.queues.proofs.Ring.put.Tie as tie
-use Rattle.queues.proofs.Ring.put.Reads as reads
-use Rattle.queues.proofs.Ring.put.Lts as lts
 
 add-self : tie.Need-add-self
 add-self c = search needs
@@ -22,7 +20,10 @@ returns : tie.Need-returns
 returns c = search needs
 
 returns-2 : tie.Need-returns-2
-returns-2 c = let none : c .before .before .before .before .args .self .coming - 1 ≡ c .before .before .before .before .args .self .coming = omega arith in rw none
+returns-2 c =
+    let was = c .before .before .before .before .args .self in
+    let none : was .coming - 1 ≡ was .coming = omega arith in
+    rw none
 
 pub put-spec : {M : Type 1} → statement M
 put-spec = tie.close (tie.spec add-self add-self-2 sub-self returns returns-2)

@@ -4,12 +4,6 @@ use Rattle.queues.proofs.Counts.{some-held}
 use borrow.Author.Needs.{needs}
 use Rattle.queues.proofs.Ring.word_done.Statement.{statement}
 use Rattle.queues.proofs.Ring.word_done.Tie as tie
-use Rattle.queues.proofs.Ring.word_done.Reads as reads
-use Rattle.queues.proofs.Ring.word_done.Lts as lts
-use Rattle.queues.proofs.Ring.asked.Reads as asked-reads
-use Rattle.queues.proofs.Ring.asked_by.Reads as asked-by-reads
-use Rattle.queues.proofs.Ring.depth.Reads as depth-reads
-use Rattle.queues.proofs.counted.around.Reads as around-reads
 
 asked-by-requires : tie.Need-asked-by-requires
 asked-by-requires c κs = search needs
@@ -30,7 +24,9 @@ asked-requires : tie.Need-asked-requires
 asked-requires c κs = search needs
 
 returns : tie.Need-returns
-returns c = rw (c .asked .ensures, c .before .before .around .ensures, c .before .before .before .before .depth .ensures, c .before .before .before .before .before .asked-by .ensures)
+returns c =
+    let ahead = c .before .before .before .before in
+    rw (c .asked .ensures, c .before .before .around .ensures, ahead .depth .ensures, ahead .before .asked-by .ensures)
 
 pub word-done-spec : {M : Type 1} → statement M
 word-done-spec =

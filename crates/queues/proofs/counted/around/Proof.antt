@@ -2,8 +2,6 @@
 use borrow.Author.Tests.{lt-ltb, le-ltb}
 use Rattle.queues.proofs.counted.around.Statement.{statement}
 use Rattle.queues.proofs.counted.around.Tie as tie
-use Rattle.queues.proofs.counted.around.Reads as reads
-use Rattle.queues.proofs.counted.around.Lts as lts
 
 returns : tie.Need-returns
 returns c = simp (lt-ltb _ _ (c .if1 .taken))

@@ -3,8 +3,6 @@ use borrow.Author.Tests.{lt-ltb, le-ltb}
 use borrow.Author.Needs.{needs}
 use Rattle.queues.proofs.counted.up_to.Statement.{statement}
 use Rattle.queues.proofs.counted.up_to.Tie as tie
-use Rattle.queues.proofs.counted.up_to.Reads as reads
-use Rattle.queues.proofs.counted.up_to.Lts as lts
 
 add-sum : tie.Need-add-sum
 add-sum c = search needs

@@ -2,9 +2,6 @@
 use borrow.Author.Needs.{needs}
 use Rattle.queues.proofs.steps.answered.Statement.{statement}
 use Rattle.queues.proofs.steps.answered.Tie as tie
-use Rattle.queues.proofs.steps.answered.Reads as reads
-use Rattle.queues.proofs.steps.answered.Lts as lts
-use Rattle.queues.proofs.Ring.asks.Reads as asks-reads
 
 asks-requires : tie.Need-asks-requires
 asks-requires c κs = search needs

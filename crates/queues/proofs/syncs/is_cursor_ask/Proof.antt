@@ -2,10 +2,6 @@
 use borrow.Author.Needs.{needs}
 use Rattle.queues.proofs.syncs.is_cursor_ask.Statement.{statement}
 use Rattle.queues.proofs.syncs.is_cursor_ask.Tie as tie
-use Rattle.queues.proofs.syncs.is_cursor_ask.Reads as reads
-use Rattle.queues.proofs.syncs.is_cursor_ask.Lts as lts
-use Rattle.queues.proofs.syncs.below.Reads as below-reads
-use Rattle.queues.proofs.syncs.wide.Reads as wide-reads
 
 wide-requires : tie.Need-wide-requires
 wide-requires c κs = search needs

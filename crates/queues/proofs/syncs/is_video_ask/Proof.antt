@@ -2,10 +2,6 @@
 use borrow.Author.Needs.{needs}
 use Rattle.queues.proofs.syncs.is_video_ask.Statement.{statement}
 use Rattle.queues.proofs.syncs.is_video_ask.Tie as tie
-use Rattle.queues.proofs.syncs.is_video_ask.Reads as reads
-use Rattle.queues.proofs.syncs.is_video_ask.Lts as lts
-use Rattle.queues.proofs.syncs.wide.Reads as wide-reads
-use Rattle.registers.proofs.setting.Setting.display_on.Reads as display-on-reads
 
 display-on-requires : tie.Need-display-on-requires
 display-on-requires c κs = search needs

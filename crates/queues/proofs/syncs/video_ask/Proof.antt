@@ -3,11 +3,6 @@ use Rattle.queues.specs.Syncs.{videoAsk}
 use borrow.Author.Needs.{needs}
 use Rattle.queues.proofs.syncs.video_ask.Statement.{statement}
 use Rattle.queues.proofs.syncs.video_ask.Tie as tie
-use Rattle.queues.proofs.syncs.video_ask.Reads as reads
-use Rattle.queues.proofs.syncs.video_ask.Lts as lts
-use Rattle.queues.proofs.counted.words_if.Reads as words-if-reads
-use Rattle.queues.proofs.syncs.is_video_ask.Reads as is-video-ask-reads
-use Rattle.registers.proofs.record.Registers.setting.Reads as setting-reads
 
 setting-requires : tie.Need-setting-requires
 setting-requires c κs = search needs

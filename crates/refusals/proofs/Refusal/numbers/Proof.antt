@@ -3,8 +3,6 @@ use mathlib.Core.Path.{refl}
 use borrow.Author.Needs.{needs}
 use Rattle.refusals.proofs.Refusal.numbers.Statement.{statement}
 use Rattle.refusals.proofs.Refusal.numbers.Tie as tie
-use Rattle.refusals.proofs.Refusal.numbers.Reads as reads
-use Rattle.refusals.proofs.Refusal.numbers.Lts as lts
 
 -- src/lib.rt:50:38
 enum-told : tie.Need-enum-told

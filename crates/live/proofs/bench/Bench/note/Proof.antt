@@ -18,7 +18,9 @@ same-length c = search needs
 
 returns : tie.Need-returns
 unfolding noted
-returns c = rw (c .before .before .put-number3 .ensures, c .before .before .before .before .before .before .put-number2 .ensures, c .before .before .before .before .before .before .before .before .before .before .put-number .ensures)
+returns c =
+    let second = c .before .before .before .before .before .before in
+    rw (c .before .before .put-number3 .ensures, second .put-number2 .ensures, second .before .before .before .before .put-number .ensures)
 
 pub note-spec : {M : Type 1} → statement M
 note-spec =
