@@ -3,11 +3,12 @@
  *
  * Slices. Each slice is a pointer and, right behind it, its length in elements. The pointer of an empty slice may be
  * NULL. Nothing is written beyond a slice's end, and of a slice that is longer than needed only the first elements
- * are used. A pointer without a length (`count`, `colour`, `counter`, `size`) is that of one number, and may not be
- * NULL. What a call writes may not overlap anything else that is handed to that call.
+ * are used. A pointer without a length (`count`, `colour`, `counter`, `size`, `words` of vom_sync_ask) is that of one
+ * number, and may not be NULL. What a call writes may not overlap anything else that is handed to that call.
  *
  * Answers. Every call that answers uint64_t answers 0 for success, else number * 2^32 + detail of a row
- * of the table below: VOM_NUMBER and VOM_DETAIL take them apart. A refused call writes nothing.
+ * of the table below: VOM_NUMBER and VOM_DETAIL take them apart. A refused call writes nothing. A call on a queue
+ * answers a vom_reply instead, in which the number stands by itself, without a detail.
  *
  * A record is two slices of VOM_REGISTERS elements: `values`, each register's data at its address / 4 (of which the
  * low 24 bits count), and `written`, a byte that is not 0 where that register was written. A fresh one is all zero.
@@ -16,7 +17,13 @@
  *
  * A slice that is lent for an answer and is too short is refused with 13, after every other refusal of the call.
  *
- * Each call's result is proved, for every input, against the definitions in crates/vombelishi/specs. */
+ * A queue is one vom_queue, lent to each call on it by a pointer that may not be NULL. Any numbers may stand in it. It
+ * is fit where `place` is below its depth, `held` and `coming` are at most its depth, `taken` is at most 3, and 0 where
+ * `held` is 0, and `count` is not below `held`. Every call first replaces one that is not fit by a fresh one of its
+ * kind, also where it then refuses; beyond that a refused call writes nothing. Every call leaves a fit one.
+ *
+ * Each call's result is proved, for every input, against the definitions in crates/vombelishi/specs and, of queues, in
+ * crates/queues/specs. */
 #ifndef VOMBELISHI_H
 #define VOMBELISHI_H
 
@@ -30,6 +37,11 @@ extern "C" {
 #define VOM_REGISTERS 64
 #define VOM_SETTING 21
 #define VOM_PLACES 9
+
+/* The kinds of queues. Every number from VOM_SOUND up is sound. */
+#define VOM_VIDEO 0
+#define VOM_CURSOR 1
+#define VOM_SOUND 2
 
 #define VOM_NUMBER(answer) ((uint32_t)((answer) >> 32))
 #define VOM_DETAIL(answer) ((uint32_t)(answer))
@@ -50,6 +62,27 @@ extern "C" {
 #define VOM_REFUSED_SHORT 13 /* a lent buffer is too short */
 #define VOM_REFUSED_PLATE_FILE 14 /* the file's length or trailer is wrong */
 #define VOM_REFUSED_TOO_LARGE 15 /* a plate to be written is over 4,194,304 bytes, or the printer's input over 65,536 */
+#define VOM_REFUSED_FULL 16 /* load into a full queue, or with its count at its largest */
+#define VOM_REFUSED_EMPTY 17 /* read from an empty queue */
+
+/* One of the chip's queues. Its depth is 8 words for video, else 4. */
+typedef struct vom_queue {
+    uint32_t words[8]; /* the words held, around in a ring; where the depth is 4, in the first four */
+    uint16_t kind;     /* VOM_VIDEO, VOM_CURSOR or VOM_SOUND */
+    uint16_t taken;    /* bytes already read of the word that is being read */
+    uint32_t place;    /* where in `words` that word stands */
+    uint32_t held;     /* words held, that one among them until its last byte is read */
+    uint32_t coming;   /* words asked for and still to come */
+    uint64_t count;    /* words loaded since the last emptying */
+} vom_queue;
+
+/* What a call on a queue answers, of the queue as the call leaves it. */
+typedef struct vom_reply {
+    uint64_t count;  /* words loaded since the last emptying */
+    uint32_t number; /* 0 for success, else the refusal's number */
+    uint16_t byte;   /* the byte read; 0 where none was */
+    uint16_t asks;   /* 1 where the queue asks: four words or more are still to come; else 0 */
+} vom_reply;
 
 /* Applies register words to a record, in order. Refusals: 13 (record), 1 (more than 1,024 words), 2 (a reserved
  * address; detail: the index of the first). Writes, for each word, its data to `values` and 1 to `written`, both at
@@ -130,6 +163,33 @@ uint64_t vom_write(const uint32_t *registers, size_t registers_len, const uint32
  * 13 (`text` shorter than the text). Writes the text to `text` (no zero byte follows it) and its length in bytes to
  * `size`. */
 uint64_t vom_text(const uint8_t *file, size_t file_len, uint8_t *text, size_t text_len, uint64_t *size);
+
+/* A fresh queue of a kind: all else is 0, but sound has four words to come. It counts as just emptied. */
+vom_queue vom_queue_fresh(uint16_t kind);
+
+/* Loads one word behind those held. Refusal: 16 (the queue is full, or its count is 2^64 - 1). Writes the word, one
+ * more to `held` and to `count`, and one less to `coming`, if any were to come. */
+vom_reply vom_queue_load(vom_queue *queue, uint32_t word);
+
+/* Reads one byte: the words leave in the order they came, low byte first. `control` is the control register's data, of
+ * which bits 5-4 count. Refusal: 17 (the queue is empty). Writes `taken`, and with a word's last byte the next word's
+ * `place`, one less to `held`, and to `coming` what is asked for then, as vom_queue_ask does: 4 of video where the
+ * word's place % 4 is the number in bits 5-4, 4 of sound where it was the last word held, else 0. */
+vom_reply vom_queue_read(vom_queue *queue, uint32_t control);
+
+/* The vertical sync of a raster: it starts with raster 0, and only there does it empty a queue. Writes a fresh queue of
+ * its kind where the raster is 0 and the queue is not sound. */
+vom_reply vom_queue_vertical_sync(vom_queue *queue, uint32_t raster);
+
+/* Asks for so many words, any number. Writes so many more to `coming`, at most the depth in all. */
+vom_reply vom_queue_ask(vom_queue *queue, uint32_t words);
+
+/* How many words the sync of a raster, from its start to its end, asks of a queue of a kind: 8 of video where the
+ * raster is VDS and VDE > VDS; 4 of a cursor, where both its vertical registers are written, on the rasters VCS,
+ * VCS + 2 and so on below VCE; else 0. The registers need not pass vom_check. Refusal: 13 (record). Writes one number
+ * to `words`. */
+uint64_t vom_sync_ask(const uint32_t *values, size_t values_len, const uint8_t *written, size_t written_len,
+                      uint16_t kind, uint32_t raster, uint32_t *words);
 
 #ifdef __cplusplus
 }

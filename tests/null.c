@@ -33,7 +33,7 @@ static void load_small(void) {
 }
 
 static void no_record(void) {
-    uint32_t setting[VOM_SETTING], counter = 7;
+    uint32_t setting[VOM_SETTING], counter = 7, words = 7;
     uint16_t cells[192], colour = 7;
     uint64_t place[2], count = 7;
     int16_t out[8];
@@ -48,6 +48,7 @@ static void no_record(void) {
     is("vom_marks, no record", vom_marks(NONE, NONE, video, 1, NONE, 0, &count) == SHORT && count == 7);
     is("vom_colour, no record", vom_colour(NONE, NONE, 8, 1, &colour) == SHORT && colour == 7);
     is("vom_sound, no record", vom_sound(NONE, NONE, NONE, &counter, out, 8) == SHORT && counter == 7);
+    is("vom_sync_ask, no record", vom_sync_ask(NONE, NONE, VOM_VIDEO, 3, &words) == SHORT && words == 7);
 }
 
 static void no_lists(void) {

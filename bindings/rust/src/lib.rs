@@ -3,11 +3,14 @@
 
 pub mod calls;
 pub mod plate;
+mod queue;
 mod record;
 mod refusal;
 mod setting;
 mod single;
 
+pub use calls::Queue;
+pub use queue::Reply;
 pub use record::Record;
 pub use refusal::Refusal;
 pub use setting::Setting;

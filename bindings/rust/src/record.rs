@@ -16,6 +16,8 @@ pub struct Record {
     pub written: [u8; 64],
 }
 
+const LONG_ENOUGH: &str = "only a record shorter than 64 is refused";
+
 impl Default for Record {
     fn default() -> Record {
         Record::new()
@@ -152,8 +154,21 @@ impl Record {
         let told = answer(unsafe {
             vom_colour(self.values.as_ptr(), 64, self.written.as_ptr(), 64, depth, pixel, &mut colour)
         });
-        told.expect("only a record shorter than 64 is refused");
+        told.expect(LONG_ENOUGH);
         colour
+    }
+
+    /// How many words the sync of a raster, from its start to its end, asks of a queue of a kind: 8 of video on the first
+    /// displayed raster; 4 of the cursor on its first raster and every second one after while it shows; else 0. The
+    /// registers count as they stand: they need not pass [`Record::check`].
+    pub fn sync_ask(&self, kind: u16, raster: u32) -> u32 {
+        let mut words = 0;
+        // SAFETY: see `calls`.
+        let told = answer(unsafe {
+            vom_sync_ask(self.values.as_ptr(), 64, self.written.as_ptr(), 64, kind, raster, &mut words)
+        });
+        told.expect(LONG_ENOUGH);
+        words
     }
 
     /// Plays words, four bytes each, low first: for each byte a left and a right value in signed sixths, 8 values for

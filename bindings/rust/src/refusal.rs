@@ -13,7 +13,7 @@ pub struct Refusal {
 }
 
 /// The table's rows: number, and when it is given.
-const RULES: [(u32, &str); 15] = [
+const RULES: [(u32, &str); 17] = [
     (1, "more than 1,024 register words"),
     (2, "a reserved address"),
     (3, "a needed register is unwritten"),
@@ -29,6 +29,8 @@ const RULES: [(u32, &str); 15] = [
     (13, "a lent buffer is too short"),
     (14, "the file's length or trailer is wrong"),
     (15, "a plate to be written is over 4,194,304 bytes, or the printer's input over 65,536"),
+    (16, "load into a full queue, or with its count at its largest"),
+    (17, "read from an empty queue"),
 ];
 
 impl Refusal {

@@ -1,7 +1,7 @@
-//! The wrapper as a user meets it: the small plate from file to cells, memory that is too short, what refusals say.
+//! The wrapper as a user meets it: the small plate from file to cells, memory that is too short, queues, what refusals say.
 
 use vombelishi::plate::{self, Places};
-use vombelishi::{sound_pair_into, Record, Refusal};
+use vombelishi::{sound_pair_into, Queue, Record, Refusal, Reply};
 
 const SMALL: &[u8] = include_bytes!("../../../samples/small.plate");
 const SHORT: Result<(), Refusal> = Err(Refusal { number: 13, detail: 0 });
@@ -112,6 +112,72 @@ fn short_memory() {
     short(112, |text| plate::text(SMALL, text).map(|_| ()));
 }
 
+const FULL: Refusal = Refusal { number: 16, detail: 0 };
+const EMPTY: Refusal = Refusal { number: 17, detail: 0 };
+
+#[test]
+fn a_queue_from_fresh_to_full_and_empty() {
+    for (kind, depth, coming) in
+        [(Queue::VIDEO, 8, 0), (Queue::CURSOR, 4, 0), (Queue::SOUND, 4, 4), (u16::MAX, 4, 4)]
+    {
+        let mut queue = Queue::fresh(kind);
+        assert_eq!(queue, Queue { words: [0; 8], kind, taken: 0, place: 0, held: 0, coming, count: 0 });
+        assert_eq!(queue.read(0), Reply { count: 0, asks: coming == 4, answer: Err(EMPTY) });
+        for i in 0..depth {
+            assert_eq!(queue.load(i), Reply { count: u64::from(i) + 1, asks: false, answer: Ok(()) });
+        }
+        assert_eq!(queue.load(99), Reply { count: depth.into(), asks: false, answer: Err(FULL) });
+        let bytes: Vec<u8> = (0..4 * depth).map(|_| queue.read(0).answer.unwrap()).collect();
+        assert_eq!(bytes, (0..depth).flat_map(u32::to_le_bytes).collect::<Vec<_>>());
+        assert_eq!(
+            queue.read(0),
+            Reply { count: depth.into(), asks: kind != Queue::CURSOR, answer: Err(EMPTY) }
+        );
+    }
+}
+
+#[test]
+fn vertical_sync_empties_on_raster_0() {
+    for kind in [Queue::VIDEO, Queue::CURSOR, Queue::SOUND] {
+        let mut queue = Queue::fresh(kind);
+        queue.ask(3);
+        queue.load(5).answer.unwrap();
+        let held = queue.clone();
+        assert_eq!((queue.vertical_sync(1).count, &queue), (1, &held));
+        let after = if kind == Queue::SOUND { held } else { Queue::fresh(kind) };
+        assert_eq!((queue.vertical_sync(0).count, &queue), (after.count, &after));
+    }
+}
+
+#[test]
+fn a_queue_that_is_not_fit_is_replaced() {
+    let unfit = Queue { place: 4, count: u64::MAX, ..Queue::fresh(Queue::CURSOR) };
+    let calls: [fn(&mut Queue); 3] = [
+        |queue| assert_eq!(queue.read(0), Reply { count: 0, asks: false, answer: Err(EMPTY) }),
+        |queue| assert_eq!(queue.vertical_sync(7), Reply { count: 0, asks: false, answer: () }),
+        |queue| assert_eq!(queue.ask(0), Reply { count: 0, asks: false, answer: () }),
+    ];
+    for call in calls {
+        let mut queue = unfit.clone();
+        call(&mut queue);
+        assert_eq!(queue, Queue::fresh(Queue::CURSOR));
+    }
+    let mut fit = Queue { place: 3, ..unfit };
+    assert_eq!(fit.load(1), Reply { count: u64::MAX, asks: false, answer: Err(FULL) });
+}
+
+#[test]
+fn what_a_rasters_sync_asks_for() {
+    let (places, words) = small();
+    let mut record = loaded(places.sections(&words)[0]);
+    record.load(&[0xB800_4000, 0xBC01_4000]).unwrap(); // the cursor from raster 2 to 5
+    let asked = |kind| [0, 1, 2, 3, 4, 5, 6, u32::MAX].map(|raster| record.sync_ask(kind, raster));
+    assert_eq!(asked(Queue::VIDEO), [0, 0, 0, 8, 0, 0, 0, 0]);
+    assert_eq!(asked(Queue::CURSOR), [0, 0, 4, 0, 4, 0, 0, 0]);
+    assert_eq!(asked(Queue::SOUND), [0; 8]);
+    assert_eq!(Record::new().sync_ask(Queue::VIDEO, 1), 0);
+}
+
 #[test]
 fn a_refusal_says_number_detail_and_rule() {
     let says = |number, detail| Refusal { number, detail }.to_string();
@@ -123,5 +189,6 @@ fn a_refusal_says_number_detail_and_rule() {
         "refused 10 192: a stereo value is 0, or the sound frequency is below 3, address C0H"
     );
     assert_eq!(says(10, 0), "refused 10 0: a stereo value is 0, or the sound frequency is below 3");
-    assert_eq!(says(16, 0), "refused 16 0: not in the table");
+    assert_eq!(says(17, 0), "refused 17 0: read from an empty queue");
+    assert_eq!(says(18, 0), "refused 18 0: not in the table");
 }

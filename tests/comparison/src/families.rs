@@ -2,7 +2,8 @@
 
 use crate::bench::Bench;
 use crate::random::Random;
-use crate::{files, large, pictures, raw_files, raw_pictures, raw_records, registers, sounds, texts};
+use crate::{files, large, pictures, queues, raw_files, raw_pictures, raw_queues, raw_records};
+use crate::{registers, sounds, syncs, texts};
 
 pub struct Family {
     pub name: &'static str,
@@ -14,7 +15,7 @@ pub struct Family {
 const ONCE: u64 = u64::MAX;
 
 #[rustfmt::skip]
-pub const FAMILIES: [Family; 24] = [
+pub const FAMILIES: [Family; 28] = [
     Family { name: "load", every: 1, round: registers::load_round },
     Family { name: "check", every: 1, round: registers::check_round },
     Family { name: "check_sound", every: 1, round: registers::check_sound_round },
@@ -33,12 +34,16 @@ pub const FAMILIES: [Family; 24] = [
     Family { name: "large_text", every: 50, round: texts::large_text_round },
     Family { name: "long_file", every: 200, round: files::long_file_round },
     Family { name: "long_write", every: 100, round: files::long_write_round },
+    Family { name: "queue", every: 10, round: queues::queue_round },
+    Family { name: "queue_fresh", every: ONCE, round: queues::every_fresh },
+    Family { name: "sync_ask", every: 4, round: syncs::sync_ask_round },
     Family { name: "raw_record", every: 1, round: raw_records::raw_record_round },
     Family { name: "raw_sound", every: 1, round: raw_records::raw_sound_round },
     Family { name: "raw_picture", every: 1, round: raw_pictures::raw_picture_round },
     Family { name: "raw_file", every: 1, round: raw_files::raw_file_round },
     Family { name: "raw_text", every: 8, round: raw_files::raw_text_round },
     Family { name: "raw_long_write", every: 1000, round: raw_files::raw_long_write_round },
+    Family { name: "raw_queue", every: 10, round: raw_queues::raw_queue_round },
 ];
 
 impl Family {

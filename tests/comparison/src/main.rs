@@ -10,37 +10,41 @@ mod judged;
 mod large;
 mod lent;
 mod make_plate;
+mod make_queue;
 mod make_record;
 mod make_scene;
 mod ours;
 mod pictures;
 mod printer;
+mod queues;
 mod random;
 mod raw_files;
 mod raw_pictures;
+mod raw_queues;
 mod raw_records;
 mod registers;
 mod show;
 mod sounds;
+mod syncs;
 mod tables;
 mod texts;
 
 use crate::bench::Bench;
 use crate::families::{run_round, FAMILIES};
-use crate::printer::{compare_printer, PLATES};
-use crate::random::Random;
+use crate::printer::{compare_printer, Printer, PLATES, PRINTERS};
+use std::iter::Peekable;
 use std::time::{Duration, Instant};
 
-const USAGE: &str =
-    "compare [--seed N] [--rounds N] [--only FAMILY [--round R]] [--trace] [--printer PROGRAM WORD ..]";
+const USAGE: &str = "compare [--seed N] [--rounds N] [--only FAMILY [--round R]] [--trace] \
+    [--printer PROGRAM WORD ..] [--live PROGRAM WORD ..]";
 
 struct Wishes {
     seed: u64,
     rounds: u64,
     only: Option<String>,
     round: Option<u64>,
-    /// The program and the words that it is started with.
-    printer: Vec<String>,
+    /// The programs, each with the words that it is started with.
+    printers: Vec<(&'static Printer, Vec<String>)>,
     trace: bool,
     soak: Duration,
 }
@@ -66,12 +70,16 @@ fn wishes() -> Wishes {
         rounds: 30_000,
         only: None,
         round: None,
-        printer: Vec::new(),
+        printers: Vec::new(),
         trace: false,
         soak: Duration::from_secs(soak),
     };
-    let mut words = std::env::args().skip(1);
+    let mut words = std::env::args().skip(1).peekable();
     while let Some(word) = words.next() {
+        if let Some(printer) = printer(&word) {
+            wishes.printers.push((printer, command(&mut words)));
+            continue;
+        }
         let mut value = || words.next().unwrap_or_else(|| usage());
         match word.as_str() {
             "--seed" => wishes.seed = number(&value()),
@@ -79,14 +87,23 @@ fn wishes() -> Wishes {
             "--only" => wishes.only = Some(value()),
             "--round" => wishes.round = Some(number(&value())),
             "--trace" => wishes.trace = true,
-            "--printer" => {
-                wishes.printer.push(value());
-                wishes.printer.extend(words.by_ref());
-            }
             _ => usage(),
         }
     }
     wishes
+}
+
+/// The program that an option stands for.
+fn printer(option: &str) -> Option<&'static Printer> {
+    let name = option.strip_prefix("--")?;
+    PRINTERS.iter().find(|printer| printer.name == name)
+}
+
+/// What a program is started with: all words up to the next option that stands for one.
+fn command(words: &mut Peekable<impl Iterator<Item = String>>) -> Vec<String> {
+    let first = words.next().unwrap_or_else(|| usage());
+    let rest = std::iter::from_fn(|| words.next_if(|word| printer(word).is_none()));
+    std::iter::once(first).chain(rest).collect()
 }
 
 fn number(text: &str) -> u64 {
@@ -106,30 +123,22 @@ fn run_all(bench: &mut Bench, wishes: &Wishes, started: Instant) {
         round += 1;
     }
     println!("{round} rounds");
-    run_printer(bench, wishes, 0..PLATES);
+    for (printer, command) in &wishes.printers {
+        (0..PLATES).for_each(|round| compare_printer(bench, printer, command, round));
+    }
 }
 
 /// One family, in one round or in all.
 fn run_only(bench: &mut Bench, wishes: &Wishes, name: &str) {
     let rounds = wishes.round.map_or(0..wishes.rounds, |round| round..round + 1);
-    if name == "printer" {
-        return run_printer(bench, wishes, wishes.round.map_or(0..PLATES, |_| rounds));
+    if let Some((printer, command)) = wishes.printers.iter().find(|(printer, _)| printer.name == name) {
+        let rounds = wishes.round.map_or(0..PLATES, |_| rounds);
+        return rounds.for_each(|round| compare_printer(bench, printer, command, round));
     }
     let found = FAMILIES.iter().find(|family| family.name == name);
     let family = found.unwrap_or_else(|| usage());
     for round in rounds.filter(|round| round % family.every == 0) {
         family.run(bench, round);
-    }
-}
-
-fn run_printer(bench: &mut Bench, wishes: &Wishes, rounds: std::ops::Range<u64>) {
-    if wishes.printer.is_empty() {
-        return;
-    }
-    for round in rounds {
-        bench.begin("printer", round);
-        let mut random = Random::new(bench.seed, "printer", round);
-        compare_printer(bench, &mut random, &wishes.printer);
     }
 }
 

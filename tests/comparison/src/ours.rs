@@ -1,6 +1,8 @@
 //! What the second program expects, in the types of the library's Rust wrapper, name by name.
 
 use second::plate::Trailer;
+use second::queue::Queue;
+use second::queue_calls::Reply;
 use second::record::Record;
 use second::refusal::Refusal;
 use second::setting::Setting;
@@ -28,6 +30,16 @@ pub fn setting(setting: Setting) -> vombelishi::Setting {
         depth, display_on, border_on, cursor_on,
         video_words, cursor_words,
     }
+}
+
+pub fn queue(queue: &Queue) -> vombelishi::Queue {
+    let Queue { words, kind, taken, place, held, coming, count } = *queue;
+    vombelishi::Queue { words, kind, taken, place, held, coming, count }
+}
+
+/// A reply, with what the call itself says.
+pub fn reply<T>(reply: Reply, answer: T) -> vombelishi::Reply<T> {
+    vombelishi::Reply { count: reply.count, asks: reply.asks, answer }
 }
 
 pub fn places(trailer: Trailer) -> Places {

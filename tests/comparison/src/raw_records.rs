@@ -1,12 +1,15 @@
-//! The C calls themselves, of a record alone: load and load_word, the two checks, colour, sound; and of single numbers.
+//! The C calls themselves, of a record alone: load and load_word, the two checks, colour, sound, what a sync asks for; and
+//! of single numbers.
 
 use crate::bench::Bench;
 use crate::damage::{damage, damage_sound};
 use crate::handed::{judge, Given, Slice};
 use crate::judged::Judged;
+use crate::make_queue::kind;
 use crate::make_record::{ground, right, right_for_sound, word, SMALL};
 use crate::random::Random;
 use crate::registers::list;
+use crate::syncs::{asked, rasters, sync_record};
 use second::address::address_of;
 use second::record::{load_word, Record};
 use second::refusal::{refusal, refuse_if, Refusal, SHORT, SOUND};
@@ -26,6 +29,7 @@ pub fn raw_record_round(bench: &mut Bench, random: &mut Random) {
         damage(random, &mut record);
     }
     raw_check(bench, random, &record);
+    raw_sync_ask(bench, random);
 }
 
 pub fn raw_sound_round(bench: &mut Bench, random: &mut Random) {
@@ -120,6 +124,29 @@ fn raw_colour(bench: &mut Bench, random: &mut Random, record: &Record) {
     let (v, w) = ((values.pointer(), values.len()), (written.pointer(), written.len()));
     let told = unsafe { vom_colour(v.0, v.1, w.0, w.1, depth as u8, pixel as u8, shown.pointer()) };
     judge(bench, "vom_colour", &expected, told, &[&given, &shown], &format!("depth {depth}\npixel {pixel}"));
+}
+
+fn raw_sync_ask(bench: &mut Bench, random: &mut Random) {
+    let record = sync_record(random);
+    let (kind, rasters) = (kind(random), rasters(random, &record));
+    let raster = random.pick(&rasters);
+    let mut given = Given::new(random, &record);
+    let mut words = Slice::one(random, "words", 0xA5A5_A5A5);
+    let expected = given.record().map(|record| asked(&record, kind, raster));
+    if let Ok(right) = expected {
+        words.should_hold(&[right]);
+    }
+    let Given { values, written } = &mut given;
+    let (v, w) = ((values.pointer(), values.len()), (written.pointer(), written.len()));
+    let told = unsafe { vom_sync_ask(v.0, v.1, w.0, w.1, kind, raster, words.pointer()) };
+    judge(
+        bench,
+        "vom_sync_ask",
+        &expected,
+        told,
+        &[&given, &words],
+        &format!("kind {kind}\nraster {raster}"),
+    );
 }
 
 fn raw_check_sound(bench: &mut Bench, random: &mut Random, record: &Record) {

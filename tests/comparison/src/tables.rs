@@ -5,7 +5,7 @@ use crate::bench::{Bench, Row};
 
 /// The refusals that each call can give, from the paper's orders. The C calls themselves, from `vom_load` on, are also
 /// given records, and memory for every answer, that are too short.
-const CAN_REFUSE: [(&str, &[usize]); 27] = [
+const CAN_REFUSE: [(&str, &[usize]); 32] = [
     ("load", &[1, 2]),
     ("load_word", &[2]),
     ("check", &[3, 4, 5, 6, 7, 8, 9]),
@@ -18,6 +18,8 @@ const CAN_REFUSE: [(&str, &[usize]); 27] = [
     ("copy", &[13, 14]),
     ("write", &[13, 15]),
     ("text", &[1, 2, 3, 4, 5, 6, 7, 8, 9, 11, 13, 14, 15]),
+    ("queue_load", &[16]),
+    ("queue_read", &[17]),
     ("vom_load", &[1, 2, 13]),
     ("vom_load_word", &[2, 13]),
     ("vom_check", &[3, 4, 5, 6, 7, 8, 9, 13]),
@@ -33,13 +35,30 @@ const CAN_REFUSE: [(&str, &[usize]); 27] = [
     ("vom_copy", &[13, 14]),
     ("vom_write", &[13, 15]),
     ("vom_text", &[13]),
+    ("vom_queue_load", &[16]),
+    ("vom_queue_read", &[17]),
+    ("vom_sync_ask", &[13]),
 ];
 
-const ALWAYS_ANSWERED: [&str; 6] = ["colour", "grey", "pin", "sound_pair", "vom_grey", "vom_pin"];
+const ALWAYS_ANSWERED: [&str; 13] = [
+    "colour",
+    "grey",
+    "pin",
+    "sound_pair",
+    "queue_fresh",
+    "queue_vertical_sync",
+    "queue_ask",
+    "sync_ask",
+    "vom_grey",
+    "vom_pin",
+    "vom_queue_fresh",
+    "vom_queue_vertical_sync",
+    "vom_queue_ask",
+];
 
 pub fn print(bench: &Bench) {
     println!("inputs compared, by call: accepted, then refused by number");
-    println!("{:<17}{:>9}{}", "call", "accepted", (1..16).map(|n| format!("{n:>7}")).collect::<String>());
+    println!("{:<24}{:>9}{}", "call", "accepted", (1..18).map(|n| format!("{n:>7}")).collect::<String>());
     for (call, row) in &bench.calls {
         print_row(call, row);
     }
@@ -71,7 +90,7 @@ fn print_shapes(bench: &Bench) {
 
 fn print_row(call: &str, row: &Row) {
     let numbers: String = row[1..].iter().map(|n| format!("{n:>7}")).collect();
-    println!("{call:<17}{:>9}{numbers}", row[0]);
+    println!("{call:<24}{:>9}{numbers}", row[0]);
 }
 
 fn totals(bench: &Bench) -> Row {
@@ -102,7 +121,7 @@ pub fn never_met(bench: &Bench) -> Vec<String> {
     }
     missing.extend(details_never_met(bench));
     let all = totals(bench);
-    missing.extend((1..16).filter(|&n| all[n] == 0).map(|n| format!("refusal {n}")));
+    missing.extend((1..18).filter(|&n| all[n] == 0).map(|n| format!("refusal {n}")));
     missing.extend(bench.sights.iter().filter(|(_, n)| **n == 0).map(|(s, _)| s.to_string()));
     for ((call, slice), shapes) in &bench.shapes {
         missing.extend(
