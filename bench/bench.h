@@ -1,6 +1,24 @@
 // What is measured: ours by the library's own header, and the baselines.
 #include "../include/vombelishi.h"
 
+#ifndef VOM_VIDEO // the queues' calls, where the header has none
+typedef struct vom_queue {
+    uint32_t words[8];
+    uint16_t kind, taken;
+    uint32_t place, held, coming;
+    uint64_t count;
+} vom_queue;
+typedef struct vom_reply {
+    uint64_t count;
+    uint32_t number;
+    uint16_t byte, asks;
+} vom_reply;
+vom_queue vom_queue_fresh(uint16_t kind);
+vom_reply vom_queue_ask(vom_queue *queue, uint32_t words);
+vom_reply vom_queue_load(vom_queue *queue, uint32_t word);
+vom_reply vom_queue_read(vom_queue *queue, uint32_t control);
+#endif
+
 // A picture as the baselines get it: judged, with its numbers in the order of vom_check's answer, and its 13-bit colours.
 // Ours starts from the record each time and judges it, which the baselines are spared.
 struct picture {
@@ -30,7 +48,11 @@ static inline uint32_t grey(uint16_t colour) { return 17 * ((colour & 15) + (col
     uint64_t count_##by(const struct picture *, uint32_t threshold); \
     uint32_t sound_##by(const uint8_t stereo[8], const uint32_t *words, size_t, uint32_t counter, int16_t *out); \
     void copy_##by(const uint8_t *file, size_t words, uint32_t *out); \
-    void put_##by(const uint32_t *words, size_t, uint8_t *out);
+    void put_##by(const uint32_t *words, size_t, uint8_t *out); \
+    vom_queue fresh_##by(uint16_t kind); \
+    vom_reply ask_##by(vom_queue *, uint32_t words); \
+    vom_reply load_##by(vom_queue *, uint32_t word); \
+    vom_reply read_##by(vom_queue *, uint32_t control);
 BASELINE(gcc)
 BASELINE(clang)
 void lines_clang(const struct picture *, uint16_t *out);

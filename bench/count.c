@@ -8,9 +8,10 @@ static const struct {
     work *run;
 } works[] = {
     {"frame", ours_frame}, {"raster", ours_raster}, {"marks", ours_marks}, {"sound", ours_sound},
-    {"copy", ours_copy}, {"write", ours_write}, {"text", ours_text},
+    {"copy", ours_copy}, {"write", ours_write}, {"text", ours_text}, {"queue", ours_queue},
     {"frame-lines", by_lines_clang}, {"frame-stretches", tuned_clang}, {"frame-cells", per_cell_clang},
     {"marks-cells", count_cells_clang}, {"sound-loop", loop_sound_clang}, {"copy-loop", loop_copy_clang}, {"write-loop", loop_put_clang},
+    {"queue-ring", ring_queue_clang},
 };
 
 static void make(const char *input, uint32_t depth) {
@@ -19,7 +20,7 @@ static void make(const char *input, uint32_t depth) {
     else if (!strcmp(input, "65536-bytes-of-sound")) set_sound();
     else if (!strcmp(input, "4194304-bytes")) set_plate();
     else if (!strcmp(input, "65536-bytes")) set_text();
-    else die("no such input");
+    else if (strcmp(input, "65536-bytes-queued")) die("no such input");
 }
 
 int main(int count, char **words) {
@@ -29,6 +30,7 @@ int main(int count, char **words) {
     for (size_t i = 0; i < sizeof works / sizeof *works; i++)
         if (!strcmp(works[i].name, words[1])) {
             for (int times = atoi(words[4]); times > 0; times--) works[i].run();
+            if (!strcmp(words[2], "65536-bytes-queued")) check_queue();
             return 0;
         }
     die("no such work");

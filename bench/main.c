@@ -34,6 +34,7 @@ static void mem_put(void) { memcpy(file_out, noise, 4 * PLATE_WORDS); }
 #define loop_sound_clang NULL
 #define loop_copy_clang NULL
 #define loop_put_clang NULL
+#define ring_queue_clang NULL
 #endif
 
 static double seconds(void) {
@@ -122,6 +123,13 @@ static void same_put(work *other) {
     memset(file_out, 0, sizeof file_out);
     other();
     if (memcmp(file_out, file_kept, 4 * PLATE_WORDS)) die("the written plates differ");
+}
+
+static void same_queue(work *other) {
+    if (!other) return;
+    memset(bytes_out, 0xAA, sizeof bytes_out);
+    other();
+    check_queue();
 }
 
 // ---- the printer's text: by the call, and by the program as a process
@@ -245,6 +253,14 @@ static void time_plates(void) {
     row("write", (work *const[]){ours_write, loop_put_gcc, loop_put_clang, mem_put}, 4, 200);
 }
 
+static void time_queue(void) {
+    same_queue(ours_queue);
+    same_queue(ring_queue_gcc);
+    same_queue(ring_queue_clang);
+    printf("\n%-26s %9s %9s %9s\n", "video queue", "ours us", "ring gcc", "clang");
+    row("65,536 bytes", (work *const[]){ours_queue, ring_queue_gcc, ring_queue_clang}, 3, 400);
+}
+
 int main(int count, char **words) {
     make_noise();
 #ifdef CLANG
@@ -259,5 +275,6 @@ int main(int count, char **words) {
     time_marks();
     time_sound();
     time_plates();
+    time_queue();
     print_plate(words[1], words[2]);
 }

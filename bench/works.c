@@ -5,11 +5,11 @@
 #include <string.h>
 
 uint32_t values[64], noise[PLATE_WORDS], words_out[PLATE_WORDS];
-uint8_t written[64], file[PLATE], file_out[PLATE];
+uint8_t written[64], file[PLATE], file_out[PLATE], bytes_out[4 * QUEUED];
 uint16_t cells[LARGEST];
 int16_t sound_out[SOUNDS * 8];
 uint32_t after;
-uint64_t marks, length;
+uint64_t marks, length, loaded;
 struct picture pic;
 static uint8_t stereo[8], text[LONGEST_TEXT];
 
@@ -120,6 +120,31 @@ void ours_write(void) {
                   PLATE, &length)) die("the plate was refused");
 }
 
+// ---- a queue: ours and the baselines by the same steps
+
+// QUEUED words go through a video queue as on a bench: the end of a sync asks for eight, four are loaded while the queue asks, and
+// each byte is read. Control bits 5-4 are 3: with the last byte of every fourth word four more are asked for.
+typedef vom_reply step(vom_queue *, uint32_t);
+static inline void through(vom_queue fresh(uint16_t), step ask, step load, step read) {
+    vom_queue queue = fresh(0);
+    vom_reply reply = ask(&queue, 8);
+    for (size_t k = 0, next = 0; k < 4 * QUEUED; k++) {
+        for (; reply.asks && next < QUEUED; next += 4)
+            for (size_t i = next; i < next + 4; i++) reply = load(&queue, noise[i]);
+        reply = read(&queue, 3 << 4);
+        bytes_out[k] = reply.byte;
+    }
+    loaded = reply.count;
+}
+
+void check_queue(void) {
+    if (loaded != QUEUED) die("the queue counted other words");
+    for (size_t k = 0; k < 4 * QUEUED; k++)
+        if (bytes_out[k] != (noise[k / 4] >> 8 * (k % 4) & 255)) die("other bytes came out of the queue");
+}
+
+void ours_queue(void) { through(vom_queue_fresh, vom_queue_ask, vom_queue_load, vom_queue_read); }
+
 // ---- the baselines, alike for each compiler
 
 #define BASELINES(by) \
@@ -128,7 +153,8 @@ void ours_write(void) {
     void count_cells_##by(void) { marks = count_##by(&pic, 128); } \
     void loop_sound_##by(void) { after = sound_##by(stereo, noise, SOUNDS, 5, sound_out); } \
     void loop_copy_##by(void) { copy_##by(file, PLATE_WORDS, words_out); } \
-    void loop_put_##by(void) { put_##by(noise, PLATE_WORDS, file_out); }
+    void loop_put_##by(void) { put_##by(noise, PLATE_WORDS, file_out); } \
+    void ring_queue_##by(void) { through(fresh_##by, ask_##by, load_##by, read_##by); }
 
 #ifdef GCC
 BASELINES(gcc)
