@@ -1,10 +1,10 @@
 // What a queue counts, step by step: depth, fitness, the place behind the last word, a word put in, a byte taken out, words asked for.
 use crate::Ring;
 ghost use mathlib.Core.Path.{_≡_};
-ghost use mathlib.Core.Bool.{Bool, false};
-ghost use Prim.Native.Nat.{_<_, _≤_, _+_};
+ghost use mathlib.Core.Bool.{false};
+ghost use Prim.Native.Nat.{_<_, _+_};
 ghost use Rattle.buffers.specs.Pick.{pick};
-ghost use Rattle.queues.specs.Queue.{queueDepth, firstComing, around, isFit, Fit, isFull, isEmpty, asksBit};
+ghost use Rattle.queues.specs.Queue.{queueDepth, around, isFit, Fit, isFull, isEmpty, asksBit};
 ghost use Rattle.queues.specs.Steps.{behind, ringPut, upTo, askedBy, ringAsked, wordDone, byteTaken};
 
 // A place around the end of a ring.

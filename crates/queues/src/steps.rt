@@ -10,7 +10,6 @@ use refusals::Refusal;
 use registers::record::Registers;
 ghost use mathlib.Core.Path.{_≡_};
 ghost use Prim.Native.Nat.{_<_};
-ghost use Rattle.refusals.specs.Refusals.{whyOf};
 ghost use Rattle.queues.specs.Queue.{freshOf, fittedOf, Fit, frontByte};
 ghost use Rattle.queues.specs.Steps.{stepOf, loadFit, readFit, loadOf, readOf, emptiedOf, verticalOf, askOf, horizontalOf, endsOf};
 
