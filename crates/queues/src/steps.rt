@@ -68,7 +68,9 @@ impl Queue {
             return answered(self, Refusal::Full.number(), 0);
         }
         let at = ring.behind() as usize;
-        self.words[at] = word;
+        let mut words = self.words;
+        words[at] = word;
+        self.words = words;
         self.ring = ring.put();
         answered(self, 0, 0)
     }
@@ -86,7 +88,8 @@ impl Queue {
         ensures { λ r. ⌜ r ≡ frontByte self ⌝ }
     {
         let ring = self.ring;
-        let word = self.words[ring.place as usize];
+        let words = self.words;
+        let word = words[ring.place as usize];
         ((word >> (8 * (ring.taken as u32))) % 0x100) as u16
     }
 

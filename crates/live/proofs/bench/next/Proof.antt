@@ -28,7 +28,8 @@ returns c =
     let start = c .before .before .before .before .before .before .before .before .before .before .before in
     let tested = c .before .before .before .before .before in
     let done = next-finished (start .args .b) _ _ (start .args .reply) (start .args .words .now) (start .args .told .now)
-    (tested .before .before .before .counted .ensures) (tested .before .before .with-block .ensures) (sym (tested .before .is-finished .ensures) ∙ tested .if1 .taken) in
+    (tested .before .before .before .counted .ensures) (tested .before .before .with-block .ensures)
+    (sym (tested .before .is-finished .ensures) ∙ tested .if1 .taken) in
     (c .next-raster .ensures ∙ done .0, c .before .before .before .note .ensures ∙ done .1)
 
 chosen-requires : tie.Need-chosen-requires
@@ -42,7 +43,8 @@ returns-2 c =
     let start = c .before .before .before .before .before .before .before .before in
     let tested = c .before .before in
     let done = next-chosen (start .args .b) _ _ (start .args .reply) (start .args .words .now) (start .args .told .now)
-    (tested .before .before .before .counted .ensures) (tested .before .before .with-block .ensures) (sym (tested .before .is-finished .ensures) ∙ tested .if1 .left) in
+    (tested .before .before .before .counted .ensures) (tested .before .before .with-block .ensures)
+    (sym (tested .before .is-finished .ensures) ∙ tested .if1 .left) in
     (c .chosen .ensures ∙ done .0, done .1)
 
 pub next-spec : {M : Type 1} → statement M

@@ -25,15 +25,18 @@ behind-requires c κs = search needs
 cast-at : tie.Need-cast-at
 cast-at c = search needs
 
-mul-self : tie.Need-mul-self
-mul-self c = search needs
+mul-words : tie.Need-mul-words
+mul-words c = search needs
 
-element-write-self : tie.Need-element-write-self
-element-write-self c =
-    rw (c .behind .ensures) (behind-lt _ (c .before .before .before .before .pre) (sym (c .before .before .is-full .ensures) ∙ c .before .if1 .left))
+array-write-words : tie.Need-array-write-words
+array-write-words c =
+    let at = c .before in
+    rw (at .behind .ensures) (behind-lt _ (at .before .before .before .before .pre) (sym (at .before .before .is-full .ensures) ∙ at .before .if1 .left))
 
 put-requires : tie.Need-put-requires
-put-requires c κs = (c .before .before .before .before .pre, sym (c .before .before .is-full .ensures) ∙ c .before .if1 .left)
+put-requires c κs =
+    let at = c .before in
+    (at .before .before .before .before .pre, sym (at .before .before .is-full .ensures) ∙ at .before .if1 .left)
 
 answered-requires-2 : tie.Need-answered-requires-2
 answered-requires-2 c κs = search needs
@@ -44,9 +47,9 @@ returns-2 c =
     rw (
       c .answered2 .ensures,
       c .before .put .ensures,
-      c .before .before .behind .ensures,
-      ← c .before .before .before .before .is-full .ensures,
-      c .before .before .before .if1 .left,
+      c .before .before .before .behind .ensures,
+      ← c .before .before .before .before .before .is-full .ensures,
+      c .before .before .before .before .if1 .left,
     )
 
 pub load-fit-spec : {M : Type 1} → statement M
@@ -59,8 +62,8 @@ load-fit-spec =
     returns
     behind-requires
     cast-at
-    mul-self
-    element-write-self
+    mul-words
+    array-write-words
     put-requires
     answered-requires-2
     returns-2)
