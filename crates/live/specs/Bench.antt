@@ -88,8 +88,8 @@ unfoldable pub displayed : Bench → List ℕ → Bench
 displayed b told = withCall (withTotals b (b .block) (numberAt told (b .raster) 1) (b .totals)) 1 (numberAt told (b .raster) 0)
 
 -- The call on a raster that is not finished: its vertical sync, its sync's end, a load where there is room, else a read.
-unfoldable pub calledOf : Bench → List ℕ → List ℕ → Bench
-calledOf b words told =
+unfoldable pub rasterCall : Bench → List ℕ → List ℕ → Bench
+rasterCall b words told =
     pick (eqb (b .what) 4)
     (withCall b 0 (b .raster))
     (pick (eqb (b .what) 0)
@@ -98,7 +98,7 @@ calledOf b words told =
 
 -- Behind the last raster nothing is asked for.
 unfoldable pub chosenOf : Bench → List ℕ → List ℕ → Bench
-chosenOf b words told = pick (isRunning b) (calledOf b words told) (withCall b 1 0)
+chosenOf b words told = pick (isRunning b) (rasterCall b words told) (withCall b 1 0)
 
 unfoldable pub noted : Bench → List ℕ → List ℕ
 noted b told =

@@ -19,7 +19,7 @@ ghost use Rattle.live.specs.Bench.{
   isFinished,
   nextRaster,
   displayed,
-  calledOf,
+  rasterCall,
   chosenOf,
   noted,
   nextOf,
@@ -229,8 +229,8 @@ impl Bench {
     }
 
     // The call to be made on a raster that is not finished.
-    fn called(self, words: &[u32], told: &[u32]) -> Bench
-        ensures { λ r. ⌜ r ≡ calledOf self (now (words .entry)) (now (told .entry)) ⌝ }
+    fn raster_call(self, words: &[u32], told: &[u32]) -> Bench
+        ensures { λ r. ⌜ r ≡ rasterCall self (now (words .entry)) (now (told .entry)) ⌝ }
     {
         if self.what == 4 {
             return self.with_call(0, self.raster);
@@ -250,7 +250,7 @@ impl Bench {
         ensures { λ r. ⌜ r ≡ chosenOf self (now (words .entry)) (now (told .entry)) ⌝ }
     {
         if self.is_running() {
-            return self.called(words, told);
+            return self.raster_call(words, told);
         }
         self.with_call(1, 0)
     }

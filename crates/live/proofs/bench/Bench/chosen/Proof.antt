@@ -7,12 +7,12 @@ use Rattle.live.proofs.bench.Bench.chosen.Tie as tie
 is-running-requires : tie.Need-is-running-requires
 is-running-requires c κs = search needs
 
-called-requires : tie.Need-called-requires
-called-requires c κs = search needs
+raster-call-requires : tie.Need-raster-call-requires
+raster-call-requires c κs = search needs
 
 returns : tie.Need-returns
 unfolding chosenOf
-returns c = rw (c .called .ensures, ← c .before .before .is-running .ensures, c .before .if1 .taken)
+returns c = rw (c .raster-call .ensures, ← c .before .before .is-running .ensures, c .before .if1 .taken)
 
 with-call-requires : tie.Need-with-call-requires
 with-call-requires c κs = search needs
@@ -23,4 +23,4 @@ returns-2 c = rw (c .with-call .ensures, ← c .before .before .is-running .ensu
 
 pub chosen-spec : {M : Type 1} → statement M
 chosen-spec =
-    tie.close (tie.spec is-running-requires called-requires returns with-call-requires returns-2)
+    tie.close (tie.spec is-running-requires raster-call-requires returns with-call-requires returns-2)
