@@ -16,12 +16,11 @@ use Rattle.refusals.specs.Table.{Told}
 use Rattle.queues.specs.Steps.{replySays}
 use Rattle.queues.specs.declared.Queue.{Queue}
 use Rattle.queues.specs.declared.Step.{Step}
-use Rattle.queues.proofs.Thin.{lentEnded}
+use Rattle.queues.proofs.Thin.{lentEnded, lentSays}
 use Rattle.queues.proofs.Queue.load.Kinds as load-kinds
 use Rattle.queues.proofs.Queue.load.Reads as load-reads
 use Rattle.queues.proofs.Queue.read.Kinds as read-kinds
 use Rattle.queues.proofs.Queue.read.Reads as read-reads
-use Rattle.histories.specs.Lived.{lentSays}
 use Rattle.claims.specs.Calls.{Call, call}
 
 -- The record before the call and after it, the call's number, and what the reply tells.

@@ -18,7 +18,7 @@ use Rattle.queues.specs.Queue.{fittedOf}
 use Rattle.queues.specs.Steps.{loadOf, readOf, verticalOf, askOf}
 use Rattle.queues.specs.declared.Queue.{Queue}
 use Rattle.queues.specs.declared.Step.{Step}
-use Rattle.queues.proofs.Thin.{lentEnded}
+use Rattle.queues.proofs.Thin.{lentEnded, lentSays}
 use Rattle.queues.proofs.lent.load as load-lent
 use Rattle.queues.proofs.lent.read as read-lent
 use Rattle.queues.proofs.lent.vertical_sync as vertical-lent
@@ -26,7 +26,7 @@ use Rattle.queues.proofs.lent.ask as ask-lent
 use Rattle.histories.specs.Calls.{QueueCall, load, read, vertical, ask, horizontal, ends, made, after, answers}
 use Rattle.histories.specs.Account.{accountTold}
 use Rattle.histories.specs.Opens.{opens}
-use Rattle.histories.specs.Lived.{lentSays, Lent, Lived, LivedCall, leftBy, Chain, callsOf, heardOf}
+use Rattle.histories.specs.Lived.{Lent, Lived, LivedCall, leftBy, Chain, callsOf, heardOf}
 use Rattle.histories.proofs.Told.{told}
 
 -- What the functions over a lent record promise, in every model, is just that.

@@ -7,11 +7,11 @@ use borrow.Fn.Kinds.{PK, RK, Out, Dens, resT, endedOf}
 use contract.Lifetimes.{Lfts}
 use denote.Ref.{now}
 use denote.Triple.Clauses.{AtExit}
-use denote.Triple.Entry.{Args, Res}
+use denote.Triple.Entry.{Args}
 use Rattle.queues.specs.Steps.{loadOf, readOf, verticalOf, askOf}
 use Rattle.queues.specs.declared.Queue.{Queue}
 use Rattle.queues.specs.declared.Step.{Step}
-use Rattle.queues.proofs.Thin.{lentEnded}
+use Rattle.queues.proofs.Thin.{lentEnded, lentSays}
 use Rattle.queues.proofs.Queue.load.Kinds as load-kinds
 use Rattle.queues.proofs.Queue.load.Reads as load-reads
 use Rattle.queues.proofs.Queue.read.Kinds as read-kinds
@@ -30,10 +30,7 @@ use Rattle.histories.specs.Calls.{QueueCall, load, read, vertical, ask, 
 abbrev pub Stepped : (ps : List (PK 0)) (r : RK 0) → Out 0 ps r → Dens tt ps → resT r tt .Denot → Type 0
 Stepped ps r post a x = (exit : AtExit (endedOf 0 ps r) tt) × post tt a x exit
 
--- The same on a record that is lent: it holds at the exit what the step means of what it held at the entry, and so is the reply.
-abbrev pub lentSays : (Queue → ℕ → Step) → (κs : Lfts 1) → Args (lentEnded .signature) κs → Res (lentEnded .signature) κs → AtExit lentEnded κs → Type 0
-lentSays means κs a r s = (now (s .0) ≡ means (now (a .0)) (a .1 .0) .queue) × (r ≡ means (now (a .0)) (a .1 .0) .reply)
-
+-- The same on a record that is lent, by what such a call promises.
 pub record Lent (means : Queue → ℕ → Step) (q : Queue) (n : ℕ) (s : Step) : Type 0 where
   pub lifetimes : Lfts 1
   pub arguments : Args (lentEnded .signature) lifetimes

@@ -13,6 +13,7 @@ use base.Logic.{SProp, ent, sep, emp, via, fst∗, snd∗, exE, id⊢}
 use base.Fml.{GName, Lft, Share, ftrue, flft, fobs, fbor, fat}
 use prog.Wp.{Heap, Calls, Loops, WpFn, Tables}
 use ghost.Atoms.{Atoms, sem}
+use contract.Lifetimes.{Lfts}
 use contract.Monad.{fact}
 use types.Kit.{Given, ‵, raw, _⊛_, some, later, _$_, _∵_, !, qed, by, move, keep, drop, use0, use1, rewrite, split, join, pick, fsplit, fsplit3}
 use types.Kit.{fjoin, fjoin3, feqI, suffices, frame, await, done}
@@ -34,9 +35,9 @@ use denote.Struct.Laws as LL
 use denote.Exit.{yes}
 use denote.Triple.Statement.{Contract, Triple}
 use denote.Triple.Call.{calls-at}
-use denote.Triple.Entry.{onEntry}
+use denote.Triple.Entry.{onEntry, Args, Res}
 use denote.Triple.Spec.{Meets, tripleOf}
-use denote.Triple.Clauses.{Clauses, Ended, ensured, lasts, closing}
+use denote.Triple.Clauses.{AtExit, Clauses, Ended, ensured, lasts, closing}
 use denote.Triple.Walked.{says, Stays, stay-ref, stay-none, walkOf, AllGo, goes-none, goes-ref, Walks, ends-at, walked, walk-meets}
 use Rattle.queues.specs.declared.Queue.{Queue}
 use Rattle.queues.specs.declared.Reply.{Reply}
@@ -83,12 +84,16 @@ stepEnded = record {
   kept = (yes, (yes, tt));
 }
 
+-- What a lent function promises: the queue holds at the exit what the step means of what it held at the entry, and so is the reply.
+abbrev pub lentSays : (Queue → ℕ → Step) → (κs : Lfts 1) → Args (lentEnded .signature) κs → Res (lentEnded .signature) κs → AtExit lentEnded κs → Type 0
+lentSays means κs a r s = (now (s .0) ≡ means (now (a .0)) (a .1 .0) .queue) × (r ≡ means (now (a .0)) (a .1 .0) .reply)
+
 module _ (means : Queue → ℕ → Step) {M : Type 1} (𝓤 : URA M) where
   abbrev pub lentClauses : Clauses 𝓤 lentEnded
   lentClauses κs a = record {
     ghost = Unit {0};
     requires = λ _. emp 𝓤;
-    ensures = λ _ r s. fact 𝓤 ((now (s .0) ≡ means (now (a .0)) (a .1 .0) .queue) × (r ≡ means (now (a .0)) (a .1 .0) .reply));
+    ensures = λ _ r s. fact 𝓤 (lentSays means κs a r s);
   }
 
   abbrev stepClauses : Clauses 𝓤 stepEnded

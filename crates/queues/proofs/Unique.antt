@@ -1,12 +1,12 @@
 -- For each public call, any two answers that its contract permits are the same, and any two records that it leaves where one was lent.
 use Prim.Native.Nat.{ℕ}
-use mathlib.Core.Path.{_≡_, refl, sym, _∙_}
+use mathlib.Core.Path.{refl, sym, _∙_}
 use denote.Ref.{now}
 use Rattle.buffers.proofs.Coincide.{OneAnswer, OneLent}
 use Rattle.queues.specs.Steps.{loadOf, readOf, verticalOf, askOf}
 use Rattle.queues.specs.declared.Queue.{Queue}
 use Rattle.queues.specs.declared.Step.{Step}
-use Rattle.queues.proofs.Thin.{lentEnded, lentClauses}
+use Rattle.queues.proofs.Thin.{lentEnded, lentSays, lentClauses}
 use Rattle.queues.proofs.Queue.fresh.Kinds as fresh-kinds
 use Rattle.queues.proofs.Queue.fresh.Reads as fresh-reads
 use Rattle.queues.proofs.Queue.load.Kinds as load-by-value-kinds
@@ -65,7 +65,7 @@ one-sync-ask κs a x y s t p q = p ∙ sym q
 -- Whatever a step means, the promise of the function that runs it on a lent queue leaves one reply and one record.
 pub one-lent : (means : Queue → ℕ → Step) → OneLent lentEnded (λ M 𝓤 H B mem run. lentClauses means 𝓤) (λ κs s. now (s .0))
 one-lent means = record {
-  says = λ κs a r s. (now (s .0) ≡ means (now (a .0)) (a .1 .0) .queue) × (r ≡ means (now (a .0)) (a .1 .0) .reply);
+  says = lentSays means;
   nothing-else = λ 𝓤 H B mem run κs a g r s. refl;
   one = λ κs a x y s t p q. (p .1 ∙ sym (q .1), p .0 ∙ sym (q .0));
 }
