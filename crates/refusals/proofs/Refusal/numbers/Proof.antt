@@ -4,139 +4,105 @@ use borrow.Author.Needs.{needs}
 use Rattle.refusals.proofs.Refusal.numbers.Statement.{statement}
 use Rattle.refusals.proofs.Refusal.numbers.Tie as tie
 
--- src/lib.rt:50:38
 enum-told : tie.Need-enum-told
 enum-told c = search needs
 
--- src/lib.rt:51:31
 enum-known-self : tie.Need-enum-known-self
 enum-known-self c = search needs
 
--- src/lib.rt:52:32
 enum-known-self-2 : tie.Need-enum-known-self-2
 enum-known-self-2 c = search needs
 
--- src/lib.rt:53:34
 enum-told-2 : tie.Need-enum-told-2
 enum-told-2 c = search needs
 
--- src/lib.rt:54:35
 enum-told-3 : tie.Need-enum-told-3
 enum-told-3 c = search needs
 
--- src/lib.rt:55:36
 enum-told-4 : tie.Need-enum-told-4
 enum-told-4 c = search needs
 
--- src/lib.rt:56:34
 enum-told-5 : tie.Need-enum-told-5
 enum-told-5 c = search needs
 
--- src/lib.rt:57:31
 enum-told-6 : tie.Need-enum-told-6
 enum-told-6 c = search needs
 
--- src/lib.rt:58:32
 enum-told-7 : tie.Need-enum-told-7
 enum-told-7 c = search needs
 
--- src/lib.rt:59:28
 enum-known-self-3 : tie.Need-enum-known-self-3
 enum-known-self-3 c = search needs
 
--- src/lib.rt:60:35
 enum-told-8 : tie.Need-enum-told-8
 enum-told-8 c = search needs
 
--- src/lib.rt:61:32
 enum-told-9 : tie.Need-enum-told-9
 enum-told-9 c = search needs
 
--- src/lib.rt:62:31
 enum-told-10 : tie.Need-enum-told-10
 enum-told-10 c = search needs
 
--- src/lib.rt:63:35
 enum-told-11 : tie.Need-enum-told-11
 enum-told-11 c = search needs
 
--- src/lib.rt:64:34
 enum-told-12 : tie.Need-enum-told-12
 enum-told-12 c = search needs
 
--- src/lib.rt:65:30
 enum-told-13 : tie.Need-enum-told-13
 enum-told-13 c = search needs
 
--- src/lib.rt:66:31
 enum-told-14 : tie.Need-enum-told-14
 enum-told-14 c = search needs
 
--- src/lib.rt:46:5
 returns : tie.Need-returns
 returns c = rw (c .enum-told .given .1) (refl, refl)
 
--- src/lib.rt:46:5
 returns-2 : tie.Need-returns-2
 returns-2 c = rw (c .before .self .given .1) (refl, refl)
 
--- src/lib.rt:46:5
 returns-3 : tie.Need-returns-3
 returns-3 c = rw (c .before .self2 .given .1) (refl, refl)
 
--- src/lib.rt:46:5
 returns-4 : tie.Need-returns-4
 returns-4 c = rw (c .enum-told2 .given .1) (refl, refl)
 
--- src/lib.rt:46:5
 returns-5 : tie.Need-returns-5
 returns-5 c = rw (c .enum-told3 .given .1) (refl, refl)
 
--- src/lib.rt:46:5
 returns-6 : tie.Need-returns-6
 returns-6 c = rw (c .enum-told4 .given .1) (refl, refl)
 
--- src/lib.rt:46:5
 returns-7 : tie.Need-returns-7
 returns-7 c = rw (c .enum-told5 .given .1) (refl, refl)
 
--- src/lib.rt:46:5
 returns-8 : tie.Need-returns-8
 returns-8 c = rw (c .enum-told6 .given .1) (refl, refl)
 
--- src/lib.rt:46:5
 returns-9 : tie.Need-returns-9
 returns-9 c = rw (c .enum-told7 .given .1) (refl, refl)
 
--- src/lib.rt:46:5
 returns-10 : tie.Need-returns-10
 returns-10 c = rw (c .before .self3 .given .1) (refl, refl)
 
--- src/lib.rt:46:5
 returns-11 : tie.Need-returns-11
 returns-11 c = rw (c .enum-told8 .given .1) (refl, refl)
 
--- src/lib.rt:46:5
 returns-12 : tie.Need-returns-12
 returns-12 c = rw (c .enum-told9 .given .1) (refl, refl)
 
--- src/lib.rt:46:5
 returns-13 : tie.Need-returns-13
 returns-13 c = rw (c .enum-told10 .given .1) (refl, refl)
 
--- src/lib.rt:46:5
 returns-14 : tie.Need-returns-14
 returns-14 c = rw (c .enum-told11 .given .1) (refl, refl)
 
--- src/lib.rt:46:5
 returns-15 : tie.Need-returns-15
 returns-15 c = rw (c .enum-told12 .given .1) (refl, refl)
 
--- src/lib.rt:46:5
 returns-16 : tie.Need-returns-16
 returns-16 c = rw (c .enum-told13 .given .1) (refl, refl)
 
--- src/lib.rt:46:5
 returns-17 : tie.Need-returns-17
 returns-17 c = rw (c .enum-told14 .given .1) (refl, refl)
 
