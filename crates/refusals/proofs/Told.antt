@@ -8,7 +8,7 @@ use Rattle.refusals.specs.Table.{Why}
 use Rattle.refusals.specs.Refusals.{whyOf, refusal, answerSays}
 use Rattle.refusals.specs.declared.Refusal.{Refusal}
 use Rattle.refusals.specs.declared.Refusal.the-variants.{TooManyWords, Reserved, Unwritten, TestMode, Interlace, Horizontal, Vertical, Width}
-use Rattle.refusals.specs.declared.Refusal.the-variants.{Cursor, Sound, WordCount, Raster, Short, PlateFile, TooLarge, Full, Empty}
+use Rattle.refusals.specs.declared.Refusal.the-variants.{Cursor, Sound, WordCount, Raster, Short, PlateFile, TooLarge, Full, Empty, WordIndex}
 use Rattle.refusals.specs.declared.Answer.{Answer}
 use Rattle.refusals.specs.declared.Answer.the-variants.{Done, Refused}
 use Rattle.refusals.proofs.Tables.{never}
@@ -17,10 +17,10 @@ use Rattle.refusals.proofs.Tables.{never}
 cases : ℕ → List Refusal
 cases d =
     TooManyWords ∷ Reserved d ∷ Unwritten d ∷ TestMode ∷ Interlace ∷ Horizontal ∷ Vertical ∷ Width ∷ Cursor ∷ Sound d ∷ WordCount ∷ Raster
-    ∷ Short ∷ PlateFile ∷ TooLarge ∷ Full ∷ Empty ∷ []
+    ∷ Short ∷ PlateFile ∷ TooLarge ∷ Full ∷ Empty ∷ WordIndex ∷ []
 
 numbered : ℕ → List Refusal → Refusal
-numbered n [] = Empty
+numbered n [] = WordIndex
 numbered n (r ∷ rs) = pick (eqb (whyOf r .number) n) r (numbered n rs)
 
 back : Why → Refusal
@@ -45,6 +45,7 @@ back-told PlateFile = refl
 back-told TooLarge = refl
 back-told Full = refl
 back-told Empty = refl
+back-told WordIndex = refl
 
 pub same-refusal : {A : Type 0} (r q : Refusal) → refusal {A = A} r ≡ refusal q → r ≡ q
 same-refusal r q e = let w : whyOf r ≡ whyOf q = cc in sym (back-told r) ∙ (ap back w ∙ back-told q)

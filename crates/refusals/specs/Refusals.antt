@@ -2,7 +2,7 @@
 use Rattle.refusals.specs.Table.{Why, why, Told, given, refused}
 use Rattle.refusals.specs.declared.Refusal.{Refusal}
 use Rattle.refusals.specs.declared.Refusal.the-variants.{TooManyWords, Reserved, Unwritten, TestMode, Interlace, Horizontal, Vertical, Width}
-use Rattle.refusals.specs.declared.Refusal.the-variants.{Cursor, Sound, WordCount, Raster, Short, PlateFile, TooLarge, Full, Empty}
+use Rattle.refusals.specs.declared.Refusal.the-variants.{Cursor, Sound, WordCount, Raster, Short, PlateFile, TooLarge, Full, Empty, WordIndex}
 use Rattle.refusals.specs.declared.Answer.{Answer}
 use Rattle.refusals.specs.declared.Answer.the-variants.{Done, Refused}
 
@@ -24,6 +24,7 @@ whyOf PlateFile = why 14 0
 whyOf TooLarge = why 15 0
 whyOf Full = why 16 0
 whyOf Empty = why 17 0
+whyOf WordIndex = why 18 0
 
 -- A refusal as the paper's table has it.
 abbrev pub refusal : {A : Type 0} → Refusal → Told A

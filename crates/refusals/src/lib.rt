@@ -37,6 +37,8 @@ pub enum Refusal {
     Full,
     // 17: read from an empty queue
     Empty,
+    // 18: a word index outside the list
+    WordIndex,
 }
 
 // The number and the detail of a row.
@@ -64,6 +66,7 @@ impl Refusal {
             Refusal::TooLarge => Numbers(15, 0),
             Refusal::Full => Numbers(16, 0),
             Refusal::Empty => Numbers(17, 0),
+            Refusal::WordIndex => Numbers(18, 0),
         }
     }
 

@@ -55,6 +55,9 @@ enum-told-13 c = search needs
 enum-told-14 : tie.Need-enum-told-14
 enum-told-14 c = search needs
 
+enum-told-15 : tie.Need-enum-told-15
+enum-told-15 c = search needs
+
 returns : tie.Need-returns
 returns c = rw (c .enum-told .given .1) (refl, refl)
 
@@ -106,6 +109,9 @@ returns-16 c = rw (c .enum-told13 .given .1) (refl, refl)
 returns-17 : tie.Need-returns-17
 returns-17 c = rw (c .enum-told14 .given .1) (refl, refl)
 
+returns-18 : tie.Need-returns-18
+returns-18 c = rw (c .enum-told15 .given .1) (refl, refl)
+
 pub numbers-spec : {M : Type 1} → statement M
 numbers-spec =
     tie.close
@@ -127,6 +133,7 @@ numbers-spec =
     enum-told-12
     enum-told-13
     enum-told-14
+    enum-told-15
     returns
     returns-2
     returns-3
@@ -143,4 +150,5 @@ numbers-spec =
     returns-14
     returns-15
     returns-16
-    returns-17)
+    returns-17
+    returns-18)
