@@ -1,3 +1,5 @@
 pub mod Count
+pub mod Extremes
 pub mod Marks
+pub mod Summaries
 pub mod inner

@@ -1,1 +1,3 @@
 pub mod Bright
+pub mod Seen
+pub mod Shown

@@ -14,7 +14,7 @@ ghost use Rattle.cells.specs.inner.Known.{Picture};
 ghost use Rattle.marks.specs.inner.Bright.{OnCursor, cursorBright, cursorRaster, coveredAll};
 
 // Where a displayed position's pixel stands among all.
-fn place(s: Setting, x: Pixels, y: Rasters) -> usize
+pub fn place(s: Setting, x: Pixels, y: Rasters) -> usize
     requires { ⌜ Accepted s × InDisplay s (x .0) (y .0) ⌝ }
     ensures { λ r. ⌜ r ≡ position s (x .0) (y .0) ⌝ }
 {
@@ -29,7 +29,7 @@ fn wide(x: u8) -> u32
 }
 
 // A table's entry.
-fn entry(table: &[u8; 256], at: usize) -> u32
+pub fn entry(table: &[u8; 256], at: usize) -> u32
     requires { ⌜ at < 256 ⌝ }
     ensures { λ r. ⌜ (r ≡ getD (now (table .entry)) at 0) × (r ≤ 255) ⌝ }
 {
@@ -46,7 +46,7 @@ fn shown_at(s: Setting, video: &[u32], pixels: &[u8; 256], x: Pixels, y: Rasters
 }
 
 // Bit pair i of cursor raster j.
-fn pair_at(cursor: &[u32], j: usize, i: usize) -> u32
+pub fn pair_at(cursor: &[u32], j: usize, i: usize) -> u32
     requires { ⌜ (2 * j + 1 < length (now cursor)) × (i < 32) ⌝ }
     ensures { λ r. ⌜ r ≡ getD (now (cursor .entry)) (2 * j + i / 16) 0 / 2 ^ (2 * (i % 16)) % 4 ⌝ }
 {

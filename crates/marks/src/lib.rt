@@ -1,8 +1,17 @@
-// The mark count: bright display cells, counted without a frame.
+// Marks, without a frame: bright display cells counted over the frame, and per raster, with the least and the greatest grey.
 pub mod answer;
 mod count;
 mod cover;
+mod entries;
+pub mod entry;
+mod extremes;
+mod masks;
+mod part;
 mod pixels;
+mod rasters;
+mod shown;
+mod spans;
+pub mod summaries;
 mod tables;
 mod walk;
 

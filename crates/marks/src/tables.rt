@@ -7,6 +7,7 @@ use registers::record::Registers;
 ghost use mathlib.Core.Path.{_≡_};
 ghost use Rattle.registers.specs.inner.Accepted.{Depth};
 ghost use Rattle.marks.specs.inner.Bright.{Tabled, AtMost, lit, bright, byteBright};
+ghost use Rattle.marks.specs.inner.Shown.{greyAt};
 
 // 1 if the grey that an entry shows for a pixel is at or above the threshold, else 0.
 fn is_bright(entry: u16, depth: u8, threshold: u8, pixel: u8) -> u8
@@ -26,6 +27,20 @@ pub fn bright_pixels(g: Registers, depth: u8, threshold: u8) -> [u8; 256]
     let mut k: usize = 0;
     while k < 256 {
         table[k] = is_bright(palette[k % 16], depth, threshold, k as u8);
+        k += 1;
+    }
+    table
+}
+
+// The grey that each pixel shows.
+pub fn greys_of(g: Registers, depth: u8) -> [u8; 256]
+    ensures { λ r. ⌜ Tabled r 256 (greyAt g depth) ⌝ }
+{
+    let palette = entries(g);
+    let mut table = [0u8; 256];
+    let mut k: usize = 0;
+    while k < 256 {
+        table[k] = grey(shown(palette[k % 16], depth, k as u8));
         k += 1;
     }
     table

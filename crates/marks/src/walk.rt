@@ -6,7 +6,7 @@ ghost use Rattle.marks.specs.Count.{total};
 ghost use Rattle.marks.specs.inner.Bright.{AtMost, wordBright, wordBrightAt, wordFrom};
 
 // What the table has for the four bytes of a word.
-fn in_word(bytes: &[u32; 256], word: u32) -> u32
+pub fn in_word(bytes: &[u32; 256], word: u32) -> u32
     requires { ⌜ AtMost (now bytes) 255 ⌝ }
     ensures { λ r. ⌜ (r ≡ wordBright (now (bytes .entry)) word) × (r ≤ 1020) ⌝ }
 {

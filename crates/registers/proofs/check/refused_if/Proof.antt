@@ -1,5 +1,4 @@
 -- One row joined to those after it: its test chooses between its refusal and what they answer.
-use borrow.Author.Needs.{needs}
 use Rattle.registers.proofs.check.refused_if.Statement.{statement}
 use Rattle.registers.proofs.check.refused_if.Tie as tie
 
@@ -7,7 +6,7 @@ returns : tie.Need-returns
 returns c = simp (c .if1 .taken)
 
 returns-2 : tie.Need-returns-2
-returns-2 c = search needs
+returns-2 c = simp (c .if1 .left)
 
 pub refused-if-spec : {M : Type 1} → statement M
 refused-if-spec = tie.close (tie.spec returns returns-2)

@@ -1,0 +1,58 @@
+// The least and the greatest grey of the pixels that are flagged.
+use crate::entry::Entry;
+ghost use mathlib.Core.Path.{_≡_};
+ghost use Prim.Native.Nat.{_^_, _≤_};
+ghost use Rattle.registers.specs.inner.Accepted.{Depth};
+ghost use Rattle.marks.specs.Extremes.{smaller, larger, leastOf, greatestOf};
+ghost use Rattle.marks.specs.inner.Seen.{flaggedGrey};
+
+fn smaller(a: u8, b: u8) -> u8
+    ensures { λ r. ⌜ r ≡ smaller a b ⌝ }
+{
+    if b < a {
+        return b;
+    }
+    a
+}
+
+fn larger(a: u8, b: u8) -> u8
+    ensures { λ r. ⌜ r ≡ larger a b ⌝ }
+{
+    if a < b {
+        return b;
+    }
+    a
+}
+
+// A flagged pixel's grey, else a number that is said beside it.
+fn grey_or(flag: u8, grey: u8, none: u8) -> u8 {
+    if flag == 0 {
+        return none;
+    }
+    grey
+}
+
+// The entry with some count, by the flags of the 2^depth pixels there are.
+pub fn entry_of(greys: &[u8; 256], flags: &[u8; 256], depth: u8, count: u32) -> Entry
+    requires { ⌜ Depth depth × (count ≤ 2048) ⌝ }
+    ensures { λ r. ⌜ r ≡ record {
+      count = count;
+      least = leastOf (flaggedGrey (now (greys .entry)) (now (flags .entry)) 255) (2 ^ depth);
+      greatest = greatestOf (flaggedGrey (now (greys .entry)) (now (flags .entry)) 0) (2 ^ depth);
+    } ⌝ }
+{
+    let end = 1usize << depth;
+    let mut least: u8 = 255;
+    let mut greatest: u8 = 0;
+    let mut q: usize = 0;
+    while q < end {
+        least = smaller(least, grey_or(flags[q], greys[q], 255));
+        greatest = larger(greatest, grey_or(flags[q], greys[q], 0));
+        q += 1;
+    }
+    Entry {
+        count: count as u16,
+        least: least as u16,
+        greatest: greatest as u16,
+    }
+}
