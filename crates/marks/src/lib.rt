@@ -5,7 +5,7 @@ mod cover;
 mod entries;
 pub mod entry;
 mod extremes;
-mod masks;
+mod holds;
 mod part;
 mod pixels;
 mod rasters;

@@ -1,7 +1,7 @@
 // Marks per raster, kept beside the plate: made afresh, and kept where one video word is replaced.
 use crate::entries::put_entries;
 use crate::entries::put_entry;
-use crate::masks::masks_of;
+use crate::holds::masks_of;
 use crate::rasters::by_pixels;
 use crate::rasters::raster_words;
 use crate::tables::bright_bytes;

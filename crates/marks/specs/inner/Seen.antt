@@ -1,11 +1,11 @@
 -- Which pixels were seen: how often pixel q was, by a table that has 1 for it alone; a flag for each of 256, or a bit for each of sixteen.
 -- No public promise reaches this.
 use Prim.Native.Nat.{ℕ, zero, suc, _+_, _/_, _%_, _^_, _<_}
-use mathlib.Core.List.{List, replicate}
+use mathlib.Core.List.{List}
 use mathlib.Core.Path.{_≡_}
 use lib.Bits.{bitOr}
 use lib.Dec.{ltb, eqb}
-use lib.ListN.{length, getD, set}
+use lib.ListN.{length, getD, set, replicate}
 use Rattle.buffers.specs.Pick.{pick}
 use Rattle.buffers.specs.Painted.{painted}
 use Rattle.marks.specs.Count.{total, bit}

@@ -60,9 +60,9 @@ numberBy greys pixels s video cursor k = numberOf (entryBy greys pixels s video 
 
 -- What the tables hold: of bright pixels, of bytes, and at depths up to 4 of masks.
 pub record Tables (pixels bytes masks : List ℕ) (d : ℕ) : Type 0 where
-  pub pixels : AtMost pixels 1
-  pub bytes : Tabled bytes 256 (byteBright pixels d)
-  pub masks : d ≤ 4 → Masks masks d 256
+  pub few : AtMost pixels 1
+  pub summed : Tabled bytes 256 (byteBright pixels d)
+  pub held : d ≤ 4 → Masks masks d 256
 
 -- Of a displayed raster's words those from one up to another, outside of which the cursor covers nothing.
 pub record CursorPart (s : Setting) (y : ℕ) (part : Part) : Type 0 where

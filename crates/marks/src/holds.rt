@@ -26,7 +26,7 @@ fn byte_mask(depth: u32, byte: u32) -> u32
 // At depth 8 no mask is wanted.
 pub fn masks_of(depth: u8) -> [u32; 256]
     requires { ⌜ Depth depth ⌝ }
-    ensures { λ r. ⌜ depth ≤ 4 → Masks r depth 256 ⌝ }
+    ensures { λ r. ⌜ (depth ≤ 4 → Masks r depth 256) ⌝ }
 {
     let mut table = [0u32; 256];
     if depth == 8 {
