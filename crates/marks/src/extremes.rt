@@ -2,6 +2,8 @@
 use crate::entry::Entry;
 ghost use mathlib.Core.Path.{_≡_};
 ghost use Prim.Native.Nat.{_^_, _≤_};
+ghost use lib.Dec.{eqb};
+ghost use Rattle.buffers.specs.Pick.{pick};
 ghost use Rattle.registers.specs.inner.Accepted.{Depth};
 ghost use Rattle.marks.specs.Extremes.{smaller, larger, leastOf, greatestOf};
 ghost use Rattle.marks.specs.inner.Seen.{flaggedGrey};
@@ -25,11 +27,19 @@ fn larger(a: u8, b: u8) -> u8
 }
 
 // A flagged pixel's grey, else a number that is said beside it.
-fn grey_or(flag: u8, grey: u8, none: u8) -> u8 {
+fn grey_or(flag: u8, grey: u8, none: u8) -> u8
+    ensures { λ r. ⌜ r ≡ pick (eqb flag 0) none grey ⌝ }
+{
     if flag == 0 {
         return none;
     }
     grey
+}
+
+fn wide(grey: u8) -> u16
+    ensures { λ r. ⌜ r ≡ grey ⌝ }
+{
+    grey as u16
 }
 
 // The entry with some count, by the flags of the 2^depth pixels there are.
@@ -52,7 +62,7 @@ pub fn entry_of(greys: &[u8; 256], flags: &[u8; 256], depth: u8, count: u32) -> 
     }
     Entry {
         count: count as u16,
-        least: least as u16,
-        greatest: greatest as u16,
+        least: wide(least),
+        greatest: wide(greatest),
     }
 }

@@ -1,64 +1,67 @@
+-- Pixel after pixel: after each turn the first k entries hold the grey that the pixel shows.
+use Prim.Native.Nat.{_≤_, _-_, _%_}
+use mathlib.Core.Path.{refl, _∙_, ap}
+use native.Mathlib.Omega.{arith}
+use borrow.Author.Needs.{needs}
+use lib.ListN.{getD}
+use Rattle.colours.specs.Colour.{shownOf}
+use Rattle.colours.specs.Grey.{greyOf}
+use Rattle.colours.proofs.Sixteen.{entry-of}
+use Rattle.marks.specs.inner.Bright.{Tabled}
+use Rattle.marks.proofs.Tabled.{tabled-more}
 use Rattle.marks.proofs.tables.greys_of.Statement.{statement}
 use Rattle.marks.proofs.tables.greys_of.Tie as tie
-use Rattle.marks.proofs.tables.greys_of.Reads as reads
-use Rattle.marks.proofs.tables.greys_of.Lts as lts
-use Rattle.colours.proofs.entries.Reads as entries-reads
-use Rattle.colours.proofs.grey.Reads as grey-reads
-use Rattle.colours.proofs.shown.Reads as shown-reads
 
 abbrev Inv-loop : tie.InvT-loop
-Inv-loop depth palette table₀ k₀ table k = ?
+Inv-loop depth palette table₀ k₀ table k = (k ≤ 256) × Tabled table k (λ p. greyOf (shownOf (getD palette (p % 16) 0) depth p))
 
 abbrev μ-loop : tie.MeasureT-loop
-μ-loop depth palette table₀ k₀ table k = ?
+μ-loop depth palette table₀ k₀ table k = 256 - k
 
--- src/tables.rt:39:19
 entries-requires : tie.Need-entries-requires Inv-loop μ-loop
-entries-requires c κs = ?
+entries-requires c κs = search needs
 
--- src/tables.rt:42:5
 loop-holds : tie.Need-loop-holds Inv-loop μ-loop
-loop-holds c = ?
+loop-holds c = (omega arith, record { len = refl; on = λ i l. absurd (omega arith) })
 
--- src/tables.rt:43:31
 mul-shown : tie.Need-mul-shown Inv-loop μ-loop
-mul-shown c = ?
+mul-shown c = search needs
 
--- src/tables.rt:43:31
 array-read-shown : tie.Need-array-read-shown Inv-loop μ-loop
-array-read-shown c = ?
+array-read-shown c = search needs
 
--- src/tables.rt:43:55
 cast-shown : tie.Need-cast-shown Inv-loop μ-loop
-cast-shown c = ?
+cast-shown c = omega arith
 
--- src/tables.rt:43:25
 shown-requires : tie.Need-shown-requires Inv-loop μ-loop
-shown-requires c κs = ?
+shown-requires c κs = search needs
 
--- src/tables.rt:43:20
 grey-requires : tie.Need-grey-requires Inv-loop μ-loop
-grey-requires c κs = ?
+grey-requires c κs = search needs
 
--- src/tables.rt:43:9
 array-write-table : tie.Need-array-write-table Inv-loop μ-loop
-array-write-table c = ?
+array-write-table c = omega arith
 
--- src/tables.rt:44:9
 add-k : tie.Need-add-k Inv-loop μ-loop
-add-k c = ?
+add-k c = omega arith
 
--- src/tables.rt:42:5
 loop-less : tie.Need-loop-less Inv-loop μ-loop
-loop-less c = ?
+loop-less c = omega arith
 
--- src/tables.rt:42:5
 loop-again : tie.Need-loop-again Inv-loop μ-loop
-loop-again c = ?
+loop-again c =
+    (omega arith, tabled-more (c .before .before .before .loop .inv .1) (omega arith) (c .grey .ensures ∙ ap greyOf (c .before .shown .ensures)))
 
--- src/tables.rt:36:1
 returns : tie.Need-returns Inv-loop μ-loop
-returns c = ?
+returns c =
+    let s = c .before .before .before in
+    let l = c .before .loop in
+    record {
+      len = l .inv .1 .len;
+      on = λ k m.
+          l .inv .1 .on k (omega arith)
+          ∙ ap (λ e. greyOf (shownOf e (s .args .depth) k)) (entry-of (s .args .g) _ k (c .before .before .entries .ensures));
+    }
 
 pub greys-of-spec : {M : Type 1} → statement M
 greys-of-spec =
