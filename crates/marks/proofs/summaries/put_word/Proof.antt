@@ -1,74 +1,101 @@
+-- A given picture has the word, and there is room for its entries, or rows 18 and 13 refuse; else the word is in its place, and the entry of its raster
+-- is that of the new list, which is as long as the old.
+use native.Mathlib.Omega.{arith}
 use borrow.Author.Needs.{needs}
+use Rattle.cells.proofs.Pictures.{given-picture}
+use Rattle.marks.specs.Summaries.{rasterOf}
+use Rattle.marks.proofs.Calls.{replace-outside, replace-short, replace-put}
+use Rattle.marks.proofs.Put.{one-put}
+use Rattle.marks.proofs.Tabled.{bright-most}
+use Rattle.marks.proofs.Whose.{raster-some, word-raster, replaced-picture}
 use Rattle.marks.proofs.summaries.put_word.Statement.{statement}
 use Rattle.marks.proofs.summaries.put_word.Tie as tie
-use Rattle.marks.proofs.summaries.put_word.Reads as reads
-use Rattle.marks.proofs.summaries.put_word.Lts as lts
-use Rattle.marks.proofs.entries.put_entry.Reads as put-entry-reads
-use Rattle.marks.proofs.rasters.by_pixels.Reads as by-pixels-reads
-use Rattle.marks.proofs.rasters.raster_words.Reads as raster-words-reads
-use Rattle.marks.proofs.summaries.displayed.Reads as displayed-reads
-use Rattle.marks.proofs.tables.bright_pixels.Reads as bright-pixels-reads
-use Rattle.marks.proofs.tables.greys_of.Reads as greys-of-reads
 
--- src/summaries.rt:99:9
 returns : tie.Need-returns
-returns c = ?
+returns c =
+    let s = c .before .before .before .before in
+    replace-outside (s .args .g) _ _ (s .args .threshold) _ (s .args .index) (s .args .word) (s .args .s) (s .pre) (c .if1 .taken)
 
--- src/summaries.rt:101:24
 displayed-requires : tie.Need-displayed-requires
 displayed-requires c κs = search needs
 
--- src/summaries.rt:101:20
 mul-if2 : tie.Need-mul-if2
-mul-if2 c = ?
+mul-if2 c =
+    let s = c .before .before .before .before .before in
+    omega (arith, c .displayed .ensures, given-picture (s .args .g) _ _ (s .args .s) (s .pre) .accepted .vde-most)
 
--- src/summaries.rt:102:9
 returns-2 : tie.Need-returns-2
-returns-2 c = ?
+returns-2 c =
+    let here = c .before .before in
+    let s = here .before .before .before .before in
+    replace-short (s .args .g) _ _ (s .args .threshold) _ (s .args .index) (s .args .word) (s .args .s) (s .pre) (here .if1 .left)
+    (rw (c .before .displayed .ensures) at (c .if2 .taken))
 
--- src/summaries.rt:104:5
 mul-video : tie.Need-mul-video
 mul-video c = search needs
 
--- src/summaries.rt:104:5
 slice-write-video : tie.Need-slice-write-video
 slice-write-video c = search needs
 
--- src/summaries.rt:105:17
 greys-of-requires : tie.Need-greys-of-requires
 greys-of-requires c κs = search needs
 
--- src/summaries.rt:106:18
 bright-pixels-requires : tie.Need-bright-pixels-requires
 bright-pixels-requires c κs = search needs
 
--- src/summaries.rt:107:21
 raster-words-requires : tie.Need-raster-words-requires
-raster-words-requires c κs = ?
+raster-words-requires c κs =
+    let s = c .before .before .before .before .before .before .before .before in
+    given-picture (s .args .g) _ _ (s .args .s) (s .pre) .accepted
 
--- src/summaries.rt:107:13
 div-r : tie.Need-div-r
-div-r c = ?
+div-r c =
+    let s = c .before .before .before .before .before .before .before .before .before in
+    rw (c .raster-words .ensures) (raster-some (s .args .s) (given-picture (s .args .g) _ _ (s .args .s) (s .pre) .accepted))
 
--- src/summaries.rt:108:9
 by-pixels-requires : tie.Need-by-pixels-requires
-by-pixels-requires c κs = ?
+by-pixels-requires c κs =
+    let words = c .before .before .before in
+    let here = words .before .before .before .before .before in
+    let s = here .before .before .before .before in
+    let p = given-picture (s .args .g) _ _ (s .args .s) (s .pre) in (
+      replaced-picture (s .args .s) _ _ (s .args .index) (s .args .word) p,
+      rw (words .raster-words .ensures) (word-raster (s .args .s) (p .accepted) (s .args .index) (rw (p .video-words) at (here .if1 .left))),
+      bright-most (s .args .g) (s .args .s .depth) (s .args .threshold) (words .before .bright-pixels .ensures),
+    )
 
--- src/summaries.rt:109:5
 put-entry-requires : tie.Need-put-entry-requires
-put-entry-requires c κs = ?
+put-entry-requires c κs =
+    let words = c .before .before .before .before .before in
+    let test = words .before .before .before in
+    let here = test .before .before in
+    let s = here .before .before .before .before in
+    let p = given-picture (s .args .g) _ _ (s .args .s) (s .pre) in
+    let r = word-raster (s .args .s) (p .accepted) (s .args .index) (rw (p .video-words) at (here .if1 .left)) in
+    rw (words .raster-words .ensures) (omega (arith, r, test .if2 .left, test .before .displayed .ensures))
 
--- src/summaries.rt:83:1
 same-length : tie.Need-same-length
 same-length c = search needs
 
--- src/summaries.rt:83:1
 same-length-2 : tie.Need-same-length-2
 same-length-2 c = search needs
 
--- src/summaries.rt:83:1
 returns-3 : tie.Need-returns-3
-returns-3 c = ?
+returns-3 c =
+    let put = c .before .before in
+    let made = put .before .before in
+    let words = made .before .before .before .before in
+    let tables = words .before in
+    let test = tables .before .before in
+    let here = test .before .before in
+    let s = here .before .before .before .before in
+    let p = given-picture (s .args .g) _ _ (s .args .s) (s .pre) in
+    let room = rw (test .before .displayed .ensures) at (test .if2 .left) in
+    let r = word-raster (s .args .s) (p .accepted) (s .args .index) (rw (p .video-words) at (here .if1 .left)) in
+    replace-put (s .args .g) _ _ (s .args .threshold) _ (s .args .index) (s .args .word) (s .args .s) (s .pre) (here .if1 .left) _ room
+    (one-put (s .args .g) (s .args .s) _ _ (s .args .threshold) _ _ (p .accepted) (tables .before .greys-of .ensures) (tables .bright-pixels .ensures)
+    (s .args .out .now) (made .by-pixels .result) (rasterOf (s .args .s) (s .args .index)) r room
+    (rw (words .raster-words .ensures) at (made .by-pixels .ensures)) (rw (words .raster-words .ensures) at (put .put-entry .ensures)))
 
 pub put-word-spec : {M : Type 1} → statement M
 put-word-spec =

@@ -1,0 +1,46 @@
+-- The picture judged: its refusal is the call's, and a given one is handed on to a function with the call's own promise.
+use mathlib.Core.Path.{sym, ap, _∙_}
+use borrow.Author.Needs.{needs}
+use Rattle.registers.specs.Check.{checkSays}
+use Rattle.marks.proofs.Calls.{summaries-refused}
+use Rattle.marks.proofs.summaries.summaries.Statement.{statement}
+use Rattle.marks.proofs.summaries.summaries.Tie as tie
+
+judge-requires : tie.Need-judge-requires
+judge-requires c κs = search needs
+
+enum-known-why : tie.Need-enum-known-why
+enum-known-why c = search needs
+
+enum-known-s : tie.Need-enum-known-s
+enum-known-s c = search needs
+
+put-summaries-requires : tie.Need-put-summaries-requires
+put-summaries-requires c κs =
+    let given = c .before .before in
+    sym (given .before .before .judge .ensures) ∙ ap checkSays (given .s .given .1)
+
+returns : tie.Need-returns
+returns c =
+    let refused = c .before in
+    let s = refused .before .before .before .before .before .before in
+    summaries-refused (s .args .g) _ _ (s .args .threshold) _ _
+    (sym (refused .before .before .judge .ensures) ∙ ap checkSays (refused .why .given .1))
+
+same-length : tie.Need-same-length
+same-length c = search needs
+
+returns-2 : tie.Need-returns-2
+returns-2 c = search needs
+
+pub summaries-spec : {M : Type 1} → statement M
+summaries-spec =
+    tie.close
+    (tie.spec
+    judge-requires
+    enum-known-why
+    enum-known-s
+    put-summaries-requires
+    returns
+    same-length
+    returns-2)
