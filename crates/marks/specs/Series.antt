@@ -3,7 +3,7 @@ use Prim.Native.Nat.{ℕ}
 use mathlib.Core.List.{List, [], _∷_}
 use lib.ListN.{length}
 use Rattle.registers.specs.declared.record.Registers.{Registers}
-use Rattle.marks.specs.Summaries.{videoLeaves, replaceLeaves}
+use Rattle.marks.specs.Summaries.{summariesLeaves, videoLeaves, replaceLeaves}
 
 -- A word that is put at an index of the list.
 pub record Replacement : Type 0 where
@@ -14,6 +14,10 @@ pub record Replacement : Type 0 where
 pub record Kept : Type 0 where
   pub video : List ℕ
   pub numbers : List ℕ
+
+-- Numbers made afresh, beside their list.
+abbrev pub keptFresh : Registers → List ℕ → ℕ → List ℕ → List ℕ → Kept
+keptFresh g cursor threshold out video = record { video = video; numbers = summariesLeaves g video cursor threshold out }
 
 -- After one replacement, refused or not, and after each of a series, the first one first.
 abbrev pub keptOnce : Registers → List ℕ → ℕ → Kept → Replacement → Kept
