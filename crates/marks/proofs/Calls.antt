@@ -2,13 +2,13 @@
 -- has a picture, an index in its list and room, and one outside the list is refused with 18.
 use Prim.Native.Nat.{ℕ, _≤_, _<_}
 use mathlib.Core.Bool.{false}
-use mathlib.Core.List.{List, [], _∷_}
+use mathlib.Core.List.{List, [], _∷_, _++_}
 use mathlib.Core.Path.{_≡_, _∙_}
 use native.Mathlib.Omega.{arith}
 use borrow.Author.Tests.{ltb-false, leb-false, le-ltb, le-leb}
 use lib.Dec.{ltb, leb}
-use lib.ListN.{length, set, length-set}
-use Rattle.refusals.specs.Table.{why, given, refused, Row, row, judged, andThen}
+use lib.ListN.{length}
+use Rattle.refusals.specs.Table.{why, given, refused, Row, row, judged, andThen, Passes}
 use Rattle.refusals.proofs.Tables.{passes-first, passes-second, passes-given, given-passes}
 use Rattle.registers.specs.Setting.{settingOf, displayOn, videoWords}
 use Rattle.registers.specs.declared.record.Registers.{Registers}
@@ -17,7 +17,7 @@ use Rattle.registers.proofs.Accepted.{video-off}
 use Rattle.cells.specs.Picture.{pictureTable, pictureTold}
 use Rattle.cells.specs.inner.Known.{Picture}
 use Rattle.cells.proofs.Pictures.{picture-told, picture-more, given-picture}
-use Rattle.marks.specs.Summaries.{numbers, summariesTold, replaceTable, replaceTold}
+use Rattle.marks.specs.Summaries.{numbers, summariesTable, summariesTold, replaceTable, replaceTold}
 
 -- What a replacement that is not refused has.
 pub record Taken (g : Registers) (video cursor : List ℕ) (index room : ℕ) : Type 0 where
@@ -36,10 +36,24 @@ module _ (g : Registers) (video cursor : List ℕ) where
       → summariesTold g video cursor room ≡ given tt
   summaries-given room e h = rw (summaries-then room, e, le-ltb room (numbers (settingOf g)) h)
 
-  -- Of the list only its length counts.
-  pub summaries-same : (index w room : ℕ) → summariesTold g (set video index w) cursor room ≡ summariesTold g video cursor room
+  -- A table that is passed behind the picture's.
+  picture-passed : (more : List Row) → Passes (pictureTable g video cursor ++ more) → pictureTold g video cursor ≡ given (settingOf g)
+  picture-passed more p =
+      picture-told g video cursor ∙ passes-given (settingOf g) (pictureTable g video cursor) (passes-first (pictureTable g video cursor) more p)
+
+  pub given-summaries : (room : ℕ) → summariesTold g video cursor room ≡ given tt → Picture (settingOf g) video cursor × (numbers (settingOf g) ≤ room)
   unfolding summariesTold
-  summaries-same index w room = rw (length-set video index w)
+  given-summaries room e =
+      let short = row 13 (ltb room (numbers (settingOf g))) 0 ∷ [] in
+      let all = given-passes tt (summariesTable g video cursor room) tt e .0 in (
+        given-picture g video cursor (settingOf g) (picture-passed short all),
+        ltb-false room (numbers (settingOf g)) (passes-second (pictureTable g video cursor) short all .0),
+      )
+
+  -- Of the list only its length counts.
+  pub summaries-same : (other : List ℕ) (room : ℕ) → length other ≡ length video → summariesTold g other cursor room ≡ summariesTold g video cursor room
+  unfolding summariesTold
+  summaries-same other room e = rw e
 
   module _ (index room : ℕ) where
     abbrev rest : List Row
@@ -52,11 +66,9 @@ module _ (g : Registers) (video cursor : List ℕ) where
     pub replace-taken : replaceTold g video cursor index room ≡ given tt → Taken g video cursor index room
     unfolding replaceTold
     replace-taken e =
-        let table = pictureTable g video cursor in
         let all = given-passes tt (replaceTable g video cursor index room) tt e .0 in
-        let more = passes-second table rest all in
-        let shown : pictureTold g video cursor ≡ given (settingOf g) =
-        picture-told g video cursor ∙ passes-given (settingOf g) table (passes-first table rest all) in
+        let more = passes-second (pictureTable g video cursor) rest all in
+        let shown = picture-passed rest all in
         let known = given-picture g video cursor (settingOf g) shown in
         record {
           told = shown;

@@ -1,19 +1,23 @@
--- Kept numbers never drift: after any series of replacements they are those made afresh from the list as it then is. A refused one
--- changes neither; one that is taken makes its raster's numbers afresh, and all others are those of the new list already.
+-- Kept numbers never drift: after any series of replacements they are those made afresh from the list as it then is, since one that is
+-- refused changes neither, and one that is taken makes its raster's numbers afresh, where all others are those of the new list already.
 use Prim.Native.Nat.{ℕ, _+_, _*_, _<_, _≤_}
 use mathlib.Core.List.{List, [], _∷_}
 use mathlib.Core.Path.{_≡_, refl, sym, _∙_, ap}
 use native.Mathlib.Omega.{arith}
-use lib.ListN.{length, getD, set}
+use lib.ListN.{length, getD, set, length-set}
 use Rattle.buffers.specs.Painted.{painted}
 use Rattle.buffers.proofs.Paints.{Paints, length-painted, paints-of}
 use Rattle.refusals.specs.Table.{Why, Told, given, refused, unlessRefused}
 use Rattle.registers.specs.Setting.{settingOf}
 use Rattle.registers.specs.declared.record.Registers.{Registers}
-use Rattle.marks.specs.Summaries.{numberAt, numbers, summariesTold, summariesLeaves, replaceTold, videoLeaves, rasterOf, replaceLeaves}
+use Rattle.marks.specs.Count.{total}
+use Rattle.marks.specs.Marks.{marksOf}
+use Rattle.marks.specs.Summaries.{displayed, numberAt, numbers, summariesTold, summariesLeaves, replaceTold, videoLeaves, rasterOf, replaceLeaves}
 use Rattle.marks.specs.Series.{Replacement, Kept, keptFresh, keptOnce, keptAfter}
+use Rattle.marks.proofs.Totals.{total-as}
+use Rattle.marks.proofs.Sums.{numbers-sum}
 use Rattle.marks.proofs.Replacing.{raster-displayed, repainted}
-use Rattle.marks.proofs.Calls.{Taken, summaries-given, summaries-same, replace-taken}
+use Rattle.marks.proofs.Calls.{Taken, summaries-given, given-summaries, summaries-same, replace-taken}
 
 -- One replacement, by what it tells.
 module _ (g : Registers) (video cursor : List ℕ) (threshold index w : ℕ) (out : List ℕ) where
@@ -56,6 +60,23 @@ module _ (g : Registers) (video cursor : List ℕ) (threshold index w : ℕ) (ou
         → getD (replaceLeaves g video cursor threshold index w out) k 0 ≡ getD out k 0
     later-kept k p = paints .high k p
 
+-- A replacement makes the list no longer and no shorter, and so does a series.
+video-length : (g : Registers) (video cursor : List ℕ) (index w room : ℕ) → length (videoLeaves g video cursor index w room) ≡ length video
+unfolding videoLeaves
+video-length g video cursor index w room = go (replaceTold g video cursor index room)
+  where
+    go : (t : Told (Unit {0})) → length (unlessRefused t video (set video index w)) ≡ length video
+    go (given u) = length-set video index w
+    go (refused why) = refl
+
+pub series-length : (g : Registers) (cursor : List ℕ) (threshold : ℕ) (kept : Kept) (rs : List Replacement)
+    → length (keptAfter g cursor threshold kept rs .video) ≡ length (kept .video)
+unfolding keptAfter
+series-length g cursor threshold kept [] = refl
+series-length g cursor threshold kept (r ∷ rs) =
+    series-length g cursor threshold (keptOnce g cursor threshold kept r) rs
+    ∙ video-length g (kept .video) cursor (r .index) (r .word) (length (kept .numbers))
+
 module _ (g : Registers) (cursor : List ℕ) (threshold : ℕ) (out : List ℕ) where
   fresh-length : (video : List ℕ) → length (summariesLeaves g video cursor threshold out) ≡ length out
   unfolding summariesLeaves
@@ -90,7 +111,7 @@ module _ (g : Registers) (cursor : List ℕ) (threshold : ℕ) (out : List ℕ) 
         taken-numbers g video cursor threshold index w kept e
         ∙ rw (fresh-held video old)
         (repainted s (t .picture .accepted) index g video cursor threshold w out (t .inside) room)
-        ∙ sym (fresh-held (set video index w) (summaries-same g video cursor index w (length out) ∙ old))
+        ∙ sym (fresh-held (set video index w) (summaries-same g video cursor (set video index w) (length out) (length-set video index w) ∙ old))
         ∙ ap (λ v. summariesLeaves g v cursor threshold out) (sym (taken-video g video cursor threshold index w kept e))
 
   -- So it is after a series, from any numbers that are those of their list.
@@ -105,3 +126,24 @@ module _ (g : Registers) (cursor : List ℕ) (threshold : ℕ) (out : List ℕ) 
       → keptAfter g cursor threshold (keptFresh g cursor threshold out video) rs .numbers
       ≡ summariesLeaves g (keptAfter g cursor threshold (keptFresh g cursor threshold out video) rs .video) cursor threshold out
   never-drifts video rs = stays-fresh (keptFresh g cursor threshold out video) rs refl
+
+  -- The counts made afresh sum to the mark count, and so do those kept, to that of the list as it then is.
+  pub fresh-sum : (video : List ℕ) → summariesTold g video cursor (length out) ≡ given tt
+      → total (λ r. getD (summariesLeaves g video cursor threshold out) (3 * r) 0) (displayed (settingOf g))
+      ≡ marksOf g (settingOf g) video cursor threshold
+  fresh-sum video e =
+      let s = settingOf g in
+      let h = given-summaries g video cursor (length out) e in
+      let rule = numberAt g s video cursor threshold in
+      total-as (λ r. getD (summariesLeaves g video cursor threshold out) (3 * r) 0) (λ r. rule (3 * r)) (displayed s)
+      (λ r l. paints-of {d = 0} {l = out} {f = rule} (h .1) (fresh-held video e) .on (3 * r) (omega arith) (omega arith))
+      ∙ numbers-sum g s (h .0 .accepted) video cursor threshold
+
+  pub kept-sum : (video : List ℕ) (rs : List Replacement) → summariesTold g video cursor (length out) ≡ given tt
+      → total (λ r. getD (keptAfter g cursor threshold (keptFresh g cursor threshold out video) rs .numbers) (3 * r) 0) (displayed (settingOf g))
+      ≡ marksOf g (settingOf g) (keptAfter g cursor threshold (keptFresh g cursor threshold out video) rs .video) cursor threshold
+  kept-sum video rs e =
+      let start = keptFresh g cursor threshold out video in
+      let end = keptAfter g cursor threshold start rs in
+      rw (never-drifts video rs)
+      (fresh-sum (end .video) (summaries-same g video cursor (end .video) (length out) (series-length g cursor threshold start rs) ∙ e))

@@ -16,7 +16,6 @@ use Rattle.registers.specs.declared.setting.Setting.{Setting}
 use Rattle.registers.specs.inner.Accepted.{Accepted}
 use Rattle.registers.proofs.Accepted.{video-off}
 use Rattle.registers.proofs.Words.{video-rasters}
-use Rattle.cells.specs.inner.Known.{Picture}
 use Rattle.cells.proofs.RasterWords.{bits-room}
 use Rattle.cells.proofs.Replaced.{raster-replaced}
 use Rattle.marks.specs.Count.{countBelow}

@@ -1,8 +1,8 @@
 -- The counts of the displayed rasters sum to the frame's mark count: no other raster has a code 5 cell.
-use Prim.Native.Nat.{ℕ, _+_, _*_, _-_, _/_, _%_}
+use Prim.Native.Nat.{ℕ, _+_, _*_, _/_, _%_}
 use mathlib.Core.Bool.{not, and-false}
 use mathlib.Core.List.{List}
-use mathlib.Core.Path.{_≡_, refl, sym, _∙_}
+use mathlib.Core.Path.{_≡_, sym, _∙_}
 use native.Mathlib.Omega.{arith}
 use Rattle.buffers.proofs.Split.{is-false}
 use Rattle.registers.specs.declared.record.Registers.{Registers}
