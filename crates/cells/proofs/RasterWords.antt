@@ -38,6 +38,15 @@ module _ (s : Setting) (a : Accepted s) where
   pub bits-most : (s .de .0 - s .ds .0) * s .depth ≤ 2048 * 8
   bits-most = mul-le-mul {n₂ = 2048} {m₂ = 8} (omega (arith, a .de-be, a .be-n, a .n-most)) (depth-most (a .depth))
 
+  -- The bits of display position p of raster r: past those of r rasters' words, and within one raster's.
+  pub bits-at : (r p : ℕ) → (r * (s .de .0 - s .ds .0) + p) * s .depth ≡ r * rasterWords s * 32 + p * s .depth
+  bits-at r p =
+      let w = s .de .0 - s .ds .0 in
+      rw (add-mul (r * w) p (s .depth), mul-assoc r w (s .depth), mul-assoc r (rasterWords s) 32, raster-bits s a)
+
+  pub bits-room : {p : ℕ} → p < s .de .0 - s .ds .0 → p * s .depth < rasterWords s * 32
+  bits-room l = rw (raster-bits s a) (mul-lt-mul-of-pos-right l (depth-least (a .depth)))
+
   module _ (y : ℕ) where
     -- The raster's words are few, and lie in the list.
     pub first-most : y < 65536 → (y - s .vds .0) * rasterWords s ≤ 65536 * 512
@@ -55,8 +64,5 @@ module _ (s : Setting) (a : Accepted s) where
     raster-pixel video p l =
         let w = s .de .0 - s .ds .0 in
         let r = y - s .vds .0 in
-        let bits : (r * w + p) * s .depth ≡ r * rasterWords s * 32 + p * s .depth =
-        rw (add-mul (r * w) p (s .depth), mul-assoc r w (s .depth), mul-assoc r (rasterWords s) 32, raster-bits s a) in
-        let room : p * s .depth < rasterWords s * 32 = rw (raster-bits s a) (mul-lt-mul-of-pos-right l (depth-least (a .depth))) in
-        pixel-part video (s .depth) (r * w + p) p (r * rasterWords s) (rasterWords s) bits room
+        pixel-part video (s .depth) (r * w + p) p (r * rasterWords s) (rasterWords s) (bits-at r p) (bits-room l)
         ∙ ap (λ i. pixel video (s .depth) (r * w + i)) (sym (add-sub-cancel-left (s .ds .0) p))

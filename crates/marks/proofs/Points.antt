@@ -38,7 +38,7 @@ module _ (g : Registers) (s : Setting) (video cursor : List ℕ) (threshold : �
       let five : code s cursor x y ≡ 5 = eqb-true (code s cursor x y) 5 e in
       rw (cell-code g s video cursor x y, cell-colour g s video cursor x y, five)
 
-  mark-other : eqb (code s cursor x y) 5 ≡ false → isMark threshold (cell g s video cursor x y) ≡ false
+  pub mark-other : eqb (code s cursor x y) 5 ≡ false → isMark threshold (cell g s video cursor x y) ≡ false
   mark-other e = rw (cell-code g s video cursor x y, e)
 
   module _ (pixels : List ℕ) (a : Accepted s) (t : Tabled pixels 256 (bright g (s .depth) threshold)) where

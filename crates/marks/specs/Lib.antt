@@ -2,4 +2,5 @@ pub mod Count
 pub mod Extremes
 pub mod Marks
 pub mod Summaries
+pub mod Series
 pub mod inner

@@ -30,7 +30,7 @@ element-copy-out-grey-or c =
     omega (arith, c .loop-test, pixels-end _ (s .pre .0), pixels-most _ (s .pre .0))
 
 element-copy-out-grey-or-2 : tie.Need-element-copy-out-grey-or-2 Inv-loop μ-loop
-element-copy-out-grey-or-2 c = 
+element-copy-out-grey-or-2 c =
     let s = c .before .before .before in
     omega (arith, pixels-end _ (s .pre .0), pixels-most _ (s .pre .0))
 
@@ -41,12 +41,12 @@ smaller-requires : tie.Need-smaller-requires Inv-loop μ-loop
 smaller-requires c κs = search needs
 
 element-copy-out-grey-or-3 : tie.Need-element-copy-out-grey-or-3 Inv-loop μ-loop
-element-copy-out-grey-or-3 c = 
+element-copy-out-grey-or-3 c =
     let s = c .before .before .before .before .before .before in
     omega (arith, pixels-end _ (s .pre .0), pixels-most _ (s .pre .0))
 
 element-copy-out-grey-or-4 : tie.Need-element-copy-out-grey-or-4 Inv-loop μ-loop
-element-copy-out-grey-or-4 c = 
+element-copy-out-grey-or-4 c =
     let s = c .before .before .before .before .before .before .before in
     omega (arith, pixels-end _ (s .pre .0), pixels-most _ (s .pre .0))
 
@@ -57,12 +57,12 @@ larger-requires : tie.Need-larger-requires Inv-loop μ-loop
 larger-requires c κs = search needs
 
 add-q : tie.Need-add-q Inv-loop μ-loop
-add-q c = 
+add-q c =
     let s = c .before .before .before .before .before .before .before .before .before .before in
     omega (arith, pixels-end _ (s .pre .0), pixels-most _ (s .pre .0))
 
 loop-less : tie.Need-loop-less Inv-loop μ-loop
-loop-less c = 
+loop-less c =
     let s = c .before .before .before .before .before .before .before .before .before .before in
     omega (arith, pixels-end _ (s .pre .0))
 

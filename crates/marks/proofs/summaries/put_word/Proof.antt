@@ -6,8 +6,8 @@ use Rattle.cells.proofs.Pictures.{given-picture}
 use Rattle.marks.specs.Summaries.{rasterOf}
 use Rattle.marks.proofs.Calls.{replace-outside, replace-short, replace-put}
 use Rattle.marks.proofs.Put.{one-put}
+use Rattle.marks.proofs.Replacing.{raster-some, raster-displayed, replaced-picture}
 use Rattle.marks.proofs.Tabled.{bright-most}
-use Rattle.marks.proofs.Whose.{raster-some, word-raster, replaced-picture}
 use Rattle.marks.proofs.summaries.put_word.Statement.{statement}
 use Rattle.marks.proofs.summaries.put_word.Tie as tie
 
@@ -60,7 +60,7 @@ by-pixels-requires c κs =
     let s = here .before .before .before .before in
     let p = given-picture (s .args .g) _ _ (s .args .s) (s .pre) in (
       replaced-picture (s .args .s) _ _ (s .args .index) (s .args .word) p,
-      rw (words .raster-words .ensures) (word-raster (s .args .s) (p .accepted) (s .args .index) (rw (p .video-words) at (here .if1 .left))),
+      rw (words .raster-words .ensures) (raster-displayed (s .args .s) (p .accepted) (s .args .index) (rw (p .video-words) at (here .if1 .left))),
       bright-most (s .args .g) (s .args .s .depth) (s .args .threshold) (words .before .bright-pixels .ensures),
     )
 
@@ -71,7 +71,7 @@ put-entry-requires c κs =
     let here = test .before .before in
     let s = here .before .before .before .before in
     let p = given-picture (s .args .g) _ _ (s .args .s) (s .pre) in
-    let r = word-raster (s .args .s) (p .accepted) (s .args .index) (rw (p .video-words) at (here .if1 .left)) in
+    let r = raster-displayed (s .args .s) (p .accepted) (s .args .index) (rw (p .video-words) at (here .if1 .left)) in
     rw (words .raster-words .ensures) (omega (arith, r, test .if2 .left, test .before .displayed .ensures))
 
 same-length : tie.Need-same-length
@@ -91,7 +91,7 @@ returns-3 c =
     let s = here .before .before .before .before in
     let p = given-picture (s .args .g) _ _ (s .args .s) (s .pre) in
     let room = rw (test .before .displayed .ensures) at (test .if2 .left) in
-    let r = word-raster (s .args .s) (p .accepted) (s .args .index) (rw (p .video-words) at (here .if1 .left)) in
+    let r = raster-displayed (s .args .s) (p .accepted) (s .args .index) (rw (p .video-words) at (here .if1 .left)) in
     replace-put (s .args .g) _ _ (s .args .threshold) _ (s .args .index) (s .args .word) (s .args .s) (s .pre) (here .if1 .left) _ room
     (one-put (s .args .g) (s .args .s) _ _ (s .args .threshold) _ _ (p .accepted) (tables .before .greys-of .ensures) (tables .bright-pixels .ensures)
     (s .args .out .now) (made .by-pixels .result) (rasterOf (s .args .s) (s .args .index)) r room
