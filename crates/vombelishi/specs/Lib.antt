@@ -4,6 +4,7 @@ pub mod Load
 pub mod Settings
 pub mod Pictures
 pub mod Sounds
+pub mod Summaries
 pub mod Files
 pub mod Texts
 pub mod Queued

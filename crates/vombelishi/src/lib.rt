@@ -10,4 +10,5 @@ pub mod rasters;
 mod record;
 pub mod settings;
 pub mod sounds;
+pub mod summaries;
 pub mod texts;
