@@ -1,11 +1,11 @@
 -- Flags of the pixels seen: none, one, and some after others.
-use Prim.Native.Nat.{ℕ, zero, suc, _+_, _<_, _≤_}
+use Prim.Native.Nat.{ℕ, zero, suc, _+_, _<_}
 use mathlib.Core.Bool.{Bool, true, false}
 use mathlib.Core.List.{List}
 use mathlib.Core.Path.{_≡_, refl, sym, _∙_, ap}
 use native.Mathlib.Nat.{add-zero}
 use native.Mathlib.Omega.{arith}
-use borrow.Author.Tests.{eqb-true, eqb-false, eq-eqb, ne-eqb, lt-ltb, le-ltb}
+use borrow.Author.Tests.{eqb-true, eqb-false, lt-ltb}
 use lib.Dec.{ltb, eqb}
 use lib.ListN.{length, getD, set, replicate, length-set}
 use lib.Seq.{getD-set-same, getD-set-other}
@@ -37,6 +37,13 @@ pub flagged-as : {old new : List ℕ} {times others : ℕ → ℕ} → ((q : ℕ
     → Flagged old new times → Flagged old new others
 flagged-as {old} {new} {times} {others} e f = record { len = f .len; on = λ q l. f .on q l ∙ ap (λ t. pick t 1 (getD old q 0)) (e q l) }
 
+-- Seen a times and then b times.
+pub joined : (a b v : ℕ) → pick (ltb 0 b) 1 (pick (ltb 0 a) 1 v) ≡ pick (ltb 0 (a + b)) 1 v
+joined zero zero v = refl
+joined (suc a) zero v = rw add-zero
+joined zero (suc b) v = rw (lt-ltb 0 (suc b) (omega arith), lt-ltb 0 (zero + suc b) (omega arith))
+joined (suc a) (suc b) v = rw (lt-ltb 0 (suc b) (omega arith), lt-ltb 0 (suc a + suc b) (omega arith))
+
 pub flagged-join : {old mid new : List ℕ} {times others : ℕ → ℕ} → Flagged old mid times → Flagged mid new others
     → Flagged old new (λ q. times q + others q)
 flagged-join {old} {mid} {new} {times} {others} f h =
@@ -44,12 +51,6 @@ flagged-join {old} {mid} {new} {times} {others} f h =
       len = h .len ∙ f .len;
       on = λ q l. h .on q l ∙ ap (λ v. pick (ltb 0 (others q)) 1 v) (f .on q l) ∙ joined (times q) (others q) (getD old q 0);
     }
-  where
-    joined : (a b v : ℕ) → pick (ltb 0 b) 1 (pick (ltb 0 a) 1 v) ≡ pick (ltb 0 (a + b)) 1 v
-    joined zero zero v = refl
-    joined (suc a) zero v = rw add-zero
-    joined zero (suc b) v = rw (lt-ltb 0 (suc b) (omega arith), lt-ltb 0 (zero + suc b) (omega arith))
-    joined (suc a) (suc b) v = rw (lt-ltb 0 (suc b) (omega arith), lt-ltb 0 (suc a + suc b) (omega arith))
 
 -- Pixel p is flagged.
 pub flagged-one : (flags : List ℕ) (p : ℕ) → length flags ≡ 256 → p < 256 → Flagged flags (set flags p 1) (λ q. getD (only q) p 0)

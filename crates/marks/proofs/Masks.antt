@@ -29,12 +29,12 @@ bits-below x d h = omega (arith, mod-lt x (pow-pos d), pow-mono {j = 8} (depth-m
 pub byte-start : (byte d : ℕ) → byte ≡ byte / 2 ^ (0 * d)
 byte-start byte d = rw (zero-mul d, div-one byte)
 
-module _ (pixels : List ℕ) (d byte : ℕ) where
-  pub byte-rest : (rest j : ℕ) → rest ≡ byte / 2 ^ (j * d) → rest / 2 ^ d ≡ byte / 2 ^ ((j + 1) * d)
-  byte-rest rest j e =
-      let next : (j + 1) * d ≡ j * d + d = add-mul j 1 d ∙ ap (λ m. j * d + m) (one-mul d) in
-      rw (e, shr-shr byte (j * d) d, next)
+pub byte-rest : (d byte rest j : ℕ) → rest ≡ byte / 2 ^ (j * d) → rest / 2 ^ d ≡ byte / 2 ^ ((j + 1) * d)
+byte-rest d byte rest j e =
+    let next : (j + 1) * d ≡ j * d + d = add-mul j 1 d ∙ ap (λ m. j * d + m) (one-mul d) in
+    rw (e, shr-shr byte (j * d) d, next)
 
+module _ (pixels : List ℕ) (d byte : ℕ) where
   pub byte-more : (rest sum low j : ℕ) → rest ≡ byte / 2 ^ (j * d) → sum ≡ total (fieldBright pixels d byte) j → low ≡ rest % 2 ^ d
       → sum + getD pixels low 0 ≡ total (fieldBright pixels d byte) (j + 1)
   byte-more rest sum low j e f h = rw (total-more, h, e, f)

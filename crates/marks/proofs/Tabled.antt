@@ -7,7 +7,7 @@ use native.Mathlib.Omega.{arith}
 use borrow.Author.Count.{below-more}
 use borrow.Author.Tests.{le-leb, lt-leb, ltb-true, ltb-false}
 use lib.Dec.{leb, ltb}
-use lib.ListN.{getD, set, length-set, List·getD-eq-default}
+use lib.ListN.{length, getD, set, length-set, List·getD-eq-default}
 use lib.Seq.{getD-set-same, getD-set-other}
 use Rattle.registers.specs.declared.record.Registers.{Registers}
 use Rattle.colours.specs.Colour.{shownOf, colourOf}
@@ -15,13 +15,19 @@ use Rattle.colours.specs.Grey.{greyOf}
 use Rattle.marks.specs.Count.{bit}
 use Rattle.marks.specs.inner.Bright.{Tabled, AtMost, lit, bright, wordBright}
 
+-- What holds of each of the first k entries, and of a new entry k.
+pub each-more : (table : List ℕ) (k v : ℕ) (P : ℕ → ℕ → Type 0) → k < length table → ((i : ℕ) → i < k → P i (getD table i 0)) → P k v
+    → (i : ℕ) → i < k + 1 → P i (getD (set table k v) i 0)
+each-more table k v P l all here =
+    below-more (λ i. P i (getD (set table k v) i 0)) k
+    (λ i m. rw (getD-set-other table k i v 0 (λ q. omega arith)) (all i m))
+    (rw (getD-set-same table k v 0 l) here)
+
 pub tabled-more : {table : List ℕ} {k v : ℕ} {f : ℕ → ℕ} → Tabled table k f → k < 256 → v ≡ f k → Tabled (set table k v) (k + 1) f
 tabled-more {table} {k} {v} {f} t l e =
     record {
       len = length-set table k v ∙ t .len;
-      on = below-more (λ i. getD (set table k v) i 0 ≡ f i) k
-          (λ i m. getD-set-other table k i v 0 (λ q. omega arith) ∙ t .on i m)
-          (getD-set-same table k v 0 (omega (arith, t .len)) ∙ e);
+      on = each-more table k v (λ i w. w ≡ f i) (omega (arith, t .len)) (t .on) e;
     }
 
 module _ (entry d threshold p c r : ℕ) (e : c ≡ shownOf entry d p) (f : r ≡ greyOf c) where

@@ -52,6 +52,7 @@ fn masked_span(
 
 // A mask's pixels among the flags.
 fn flag_mask(mask: u32, flags: &mut [u8; 256])
+    requires { ⌜ length (now flags) ≡ 256 ⌝ }
     ensures { λ _. ⌜ Flagged (now (flags .entry)) (now (flags .exit)) (maskTimes mask) ⌝ }
 {
     let mut q: usize = 0;
@@ -65,6 +66,7 @@ fn flag_mask(mask: u32, flags: &mut [u8; 256])
 
 // A word's bytes among the flags.
 fn flag_word(word: u32, flags: &mut [u8; 256])
+    requires { ⌜ length (now flags) ≡ 256 ⌝ }
     ensures { λ _. ⌜ Flagged (now (flags .entry)) (now (flags .exit)) (λ q. wordBright (only q) word) ⌝ }
 {
     flags[(word % 256) as usize] = 1;
@@ -81,7 +83,8 @@ fn flagged_span(
     to: usize,
     flags: &mut [u8; 256],
 ) -> u32
-    requires { ⌜ AtMost (now bytes) 255 × (from ≤ to) × (to ≤ length (now words)) × (to - from ≤ 512) ⌝ }
+    requires { ⌜ AtMost (now bytes) 255 × (from ≤ to) × (to ≤ length (now words)) × (to - from ≤ 512)
+        × (length (now flags) ≡ 256) ⌝ }
     ensures { λ r. ⌜ (r ≡ total (wordFrom (now (bytes .entry)) (now (words .entry)) from) (to - from))
         × Flagged (now (flags .entry)) (now (flags .exit)) (λ q. total (wordFrom (only q) (now (words .entry)) from) (to - from)) ⌝ }
 {
@@ -107,7 +110,7 @@ pub fn span(
     flags: &mut [u8; 256],
 ) -> u32
     requires { ⌜ Depth depth × AtMost (now bytes) 255 × (depth ≤ 4 → Masks (now masks) depth 256)
-        × (from ≤ to) × (to ≤ length (now words)) × (to - from ≤ 512) ⌝ }
+        × (from ≤ to) × (to ≤ length (now words)) × (to - from ≤ 512) × (length (now flags) ≡ 256) ⌝ }
     ensures { λ r. ⌜ (r ≡ total (wordFrom (now (bytes .entry)) (now (words .entry)) from) (to - from))
         × (r ≤ 1020 * 512)
         × Flagged (now (flags .entry)) (now (flags .exit)) (wordsSeen depth (now (words .entry)) from (to - from)) ⌝ }

@@ -1,55 +1,67 @@
+-- Word after word by masks: after each turn the sum and the mask are those of the words before place k.
+use Prim.Native.Nat.{_≤_, _-_}
+use mathlib.Core.Path.{_≡_}
+use native.Mathlib.Omega.{arith}
+use borrow.Author.Needs.{needs}
+use Rattle.marks.specs.Count.{total}
+use Rattle.marks.specs.inner.Bright.{wordFrom}
+use Rattle.marks.specs.inner.Seen.{wordsMask}
+use Rattle.marks.proofs.Spanned.{count-none, count-more, span-most, mask-none, mask-more}
 use Rattle.marks.proofs.spans.masked_span.Statement.{statement}
 use Rattle.marks.proofs.spans.masked_span.Tie as tie
-use Rattle.marks.proofs.spans.masked_span.Reads as reads
-use Rattle.marks.proofs.spans.masked_span.Lts as lts
-use Rattle.marks.proofs.spans.word_mask.Reads as word-mask-reads
-use Rattle.marks.proofs.walk.in_word.Reads as in-word-reads
 
 abbrev Inv-loop : tie.InvT-loop
-Inv-loop bytes masks words from to count₀ mask₀ k₀ count mask k = ?
+Inv-loop bytes masks words from to count₀ mask₀ k₀ count mask k =
+    (from ≤ k) × (k ≤ to) × (count ≡ total (wordFrom bytes words from) (k - from)) × (mask ≡ wordsMask masks words from (k - from))
 
 abbrev μ-loop : tie.MeasureT-loop
-μ-loop bytes masks words from to count₀ mask₀ k₀ count mask k = ?
+μ-loop bytes masks words from to count₀ mask₀ k₀ count mask k = to - k
 
--- src/spans.rt:41:5
 loop-holds : tie.Need-loop-holds Inv-loop μ-loop
-loop-holds c = ?
+loop-holds c =
+    let a = c .before .args in
+    (omega arith, omega arith, count-none (a .words .now) (a .from) (a .bytes .now), mask-none (a .words .now) (a .from) (a .masks .now))
 
--- src/spans.rt:42:20
 mul-word : tie.Need-mul-word Inv-loop μ-loop
-mul-word c = ?
+mul-word c = search needs
 
--- src/spans.rt:42:20
 shared-slice-read-word : tie.Need-shared-slice-read-word Inv-loop μ-loop
-shared-slice-read-word c = ?
+shared-slice-read-word c = search needs
 
--- src/spans.rt:43:18
 in-word-requires : tie.Need-in-word-requires Inv-loop μ-loop
-in-word-requires c κs = ?
+in-word-requires c κs = search needs
 
--- src/spans.rt:43:9
 add-count : tie.Need-add-count Inv-loop μ-loop
-add-count c = ?
+add-count c =
+    let s = c .before .before .before .before .before in
+    let l = c .before .before .before .loop in
+    let n = l .k - s .args .from in
+    omega (arith, c .in-word .ensures .1, span-most (s .args .bytes .now) (s .args .words .now) _ n (s .pre .0) (omega arith) (l .inv .2))
 
--- src/spans.rt:44:23
 word-mask-requires : tie.Need-word-mask-requires Inv-loop μ-loop
-word-mask-requires c κs = ?
+word-mask-requires c κs = search needs
 
--- src/spans.rt:45:9
 add-k : tie.Need-add-k Inv-loop μ-loop
-add-k c = ?
+add-k c = search needs
 
--- src/spans.rt:41:5
 loop-less : tie.Need-loop-less Inv-loop μ-loop
-loop-less c = ?
+loop-less c = omega arith
 
--- src/spans.rt:41:5
 loop-again : tie.Need-loop-again Inv-loop μ-loop
-loop-again c = ?
+loop-again c =
+    let a = c .before .before .before .before .before .before .args in
+    let l = c .before .before .before .before .loop in (
+      omega arith,
+      omega arith,
+      count-more (a .words .now) _ _ (l .inv .0) (a .bytes .now) (l .inv .2) (c .before .in-word .ensures .0),
+      mask-more (a .words .now) _ _ (l .inv .0) (a .masks .now) (l .inv .3) (c .word-mask .ensures),
+    )
 
--- src/spans.rt:27:1
 returns : tie.Need-returns Inv-loop μ-loop
-returns c = ?
+returns c =
+    let l = c .before .loop in
+    let e : l .k ≡ c .before .before .before .args .to = omega arith in
+    (rw e at (l .inv .2), rw e at (l .inv .3))
 
 pub masked-span-spec : {M : Type 1} → statement M
 masked-span-spec =

@@ -57,7 +57,7 @@ loop-again c =
     let s = c .before .before .before .before in
     let l = c .before .before .before .loop in (
       omega arith,
-      byte-rest (s .args .pixels .now) _ _ _ _ (l .inv .1),
+      byte-rest _ _ _ _ (l .inv .1),
       byte-more (s .args .pixels .now) _ _ _ _ _ _ (l .inv .1) (l .inv .2) (c .before .low-bits .ensures),
     )
 
