@@ -107,7 +107,7 @@ pub fn span(
     flags: &mut [u8; 256],
 ) -> u32
     requires { ⌜ Depth depth × AtMost (now bytes) 255 × (depth ≤ 4 → Masks (now masks) depth 256)
-        × (from ≤ to) × (to ≤ length (now words)) × (to - from ≤ 512) ⌝ }
+        × (from ≤ to) × (to ≤ length (now words)) × (to - from ≤ 512) × (length (now flags) ≡ 256) ⌝ }
     ensures { λ r. ⌜ (r ≡ total (wordFrom (now (bytes .entry)) (now (words .entry)) from) (to - from))
         × (r ≤ 1020 * 512)
         × Flagged (now (flags .entry)) (now (flags .exit)) (wordsSeen depth (now (words .entry)) from (to - from)) ⌝ }
