@@ -26,20 +26,20 @@ unfolding greatestOf
 greatest-as f h zero e = refl
 greatest-as f h (suc n) e = rw (greatest-as f h n (λ k l. e k (omega arith)), e n (omega arith))
 
--- Raster y, by flags that were all clear before it.
-module _ (greys pixels : List ℕ) (s : Setting) (video cursor : List ℕ) (y : ℕ) {clear flags : List ℕ} (a : Accepted s)
-    (z : (q : ℕ) → getD clear q 0 ≡ 0) (f : Flagged clear flags (seenFrom s video cursor y 0 (s .de .0 - s .ds .0))) where
+-- Raster y, by flags that were all clear before its n positions.
+module _ (greys pixels : List ℕ) (s : Setting) (video cursor : List ℕ) (y : ℕ) {n : ℕ} {clear flags : List ℕ} (a : Accepted s)
+    (z : (q : ℕ) → getD clear q 0 ≡ 0) (w : n ≡ s .de .0 - s .ds .0) (f : Flagged clear flags (seenFrom s video cursor y 0 n)) where
   grey-as : (none q : ℕ) → q < 2 ^ s .depth → flaggedGrey greys flags none q ≡ seenGrey greys s video cursor none y q
   grey-as none q l =
-      let flag : getD flags q 0 ≡ pick (ltb 0 (seenFrom s video cursor y 0 (s .de .0 - s .ds .0) q)) 1 0 =
-      f .on q (omega (arith, pow-mono {j = 8} (depth-most (a .depth)))) ∙ ap (pick (ltb 0 (seenFrom s video cursor y 0 (s .de .0 - s .ds .0) q)) 1) (z q) in
-      rw flag (by (ltb 0 (seenFrom s video cursor y 0 (s .de .0 - s .ds .0) q)))
+      let seen = ltb 0 (seenFrom s video cursor y 0 n q) in
+      let flag : getD flags q 0 ≡ pick seen 1 0 = f .on q (omega (arith, pow-mono {j = 8} (depth-most (a .depth)))) ∙ ap (pick seen 1) (z q) in
+      rw (flag, ← w) (by seen)
     where
       by : (t : Bool) → pick (eqb (pick t 1 0) 0) none (getD greys q 0) ≡ pick t (getD greys q 0) none
       by true = refl
       by false = refl
 
-  pub entry-shown : {count : ℕ} {e : Entry} → count ≡ shownTotal s video cursor pixels y 0 (s .de .0 - s .ds .0)
+  pub entry-shown : {count : ℕ} {e : Entry} → count ≡ shownTotal s video cursor pixels y 0 n
       → e ≡ record {
         count = count;
         least = leastOf (flaggedGrey greys flags 255) (2 ^ s .depth);
@@ -50,6 +50,7 @@ module _ (greys pixels : List ℕ) (s : Setting) (video cursor : List ℕ) (y : 
   entry-shown h told =
       told ∙ rw (
         h,
+        w,
         least-as (flaggedGrey greys flags 255) (seenGrey greys s video cursor 255 y) (2 ^ s .depth) (grey-as 255),
         greatest-as (flaggedGrey greys flags 0) (seenGrey greys s video cursor 0 y) (2 ^ s .depth) (grey-as 0),
       )

@@ -3,7 +3,7 @@ use Prim.Native.Nat.{ℕ, _+_, _*_, _-_, _/_, _<_, _≤_, min}
 use mathlib.Core.Bool.{true, not, _||_}
 use mathlib.Core.Logic.{inl, inr}
 use mathlib.Core.Path.{_≡_}
-use native.Mathlib.Nat.{add-mul, div-mul-le-self, le-div-iff-mul-le, div-lt-iff-lt-mul, lt-div-mul-add}
+use native.Mathlib.Nat.{add-mul, mul-le-mul-right, div-mul-le-self, le-div-iff-mul-le, div-lt-iff-lt-mul, lt-div-mul-add}
 use native.Mathlib.Omega.{arith}
 use borrow.Author.Tests.{le-ltb, lt-leb}
 use lib.Dec.{leb, ltb}
@@ -12,6 +12,7 @@ use Rattle.registers.specs.declared.setting.Setting.{Setting}
 use Rattle.registers.specs.inner.Accepted.{Depth, Accepted}
 use Rattle.cells.proofs.RasterWords.{whole-pixels}
 use Rattle.cells.proofs.Regions.{covered-reached}
+use Rattle.marks.specs.declared.part.Part.{Part}
 use Rattle.marks.specs.inner.Shown.{CursorPart}
 
 -- A word holds some pixels.
@@ -58,3 +59,13 @@ module _ (s : Setting) (a : Accepted s) (y : ℕ) where
             let r = covered-reached s a (s .ds .0 + p) y cursor t in
             (omega (arith, div-mul-le-self left per, r .cursor .left), up-holds per some right p (omega (arith, r .cursor .right)));
       }
+
+-- The part's positions lie in the display.
+pub part-inside : (s : Setting) {y : ℕ} {part : Part} → Accepted s → CursorPart s y part
+    → (part .from * (32 / s .depth) ≤ part .to * (32 / s .depth)) × (part .to * (32 / s .depth) ≤ s .de .0 - s .ds .0)
+    × (s .de .0 - s .ds .0 ≤ 2048)
+part-inside s a c = (
+  mul-le-mul-right (32 / s .depth) (c .order),
+  omega (arith, mul-le-mul-right (32 / s .depth) (c .inside), whole-pixels s a),
+  omega (arith, a .de-be, a .be-n, a .n-most),
+)

@@ -117,3 +117,9 @@ module _ (s : Setting) (video cursor : List ℕ) (y from : ℕ) where
   unfolding shownTotal
   shown-few pixels n m =
       omega (arith, total-most (shownFrom s video cursor pixels y from) 1 n (λ k l. shown-most s video cursor y (from + k) pixels m))
+
+-- A raster's sum is at most its positions.
+pub raster-few : (s : Setting) (video cursor pixels : List ℕ) (y : ℕ) {sum : ℕ} → Accepted s → AtMost pixels 1
+    → sum ≡ shownTotal s video cursor pixels y 0 (s .de .0 - s .ds .0) → sum ≤ 2048
+raster-few s video cursor pixels y a m e =
+    omega (arith, shown-few s video cursor y 0 pixels (s .de .0 - s .ds .0) m, a .de-be, a .be-n, a .n-most)
