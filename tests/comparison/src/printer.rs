@@ -44,7 +44,7 @@ pub fn compare_printer(bench: &mut Bench, printer: &Printer, command: &[String],
     let mut random = Random::new(bench.seed, "printer", round);
     let file = plate(&mut random);
     let (words, text) = (printer.asked)(&mut random, &file);
-    let command = [command, &words].concat();
+    let command = [command, words.as_slice()].concat();
     let printed = run(&command, &file).unwrap_or_else(|error| format!("could not be run: {error}"));
     let mut judged = Judged { refused: picture(&file).err(), ..Judged::default() };
     judged.same("text", &text, &printed);
