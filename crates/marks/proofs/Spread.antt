@@ -7,8 +7,7 @@ use mathlib.Core.Path.{_≡_, refl, sym, _∙_, ap}
 use native.Mathlib.Nat.{add-mul, mul-assoc, zero-mul, add-sub-cancel-left, sub-zero}
 use native.Mathlib.Omega.{arith}
 use lib.Dec.{ltb}
-use lib.ListN.{length, replicate}
-use Rattle.buffers.proofs.Paints.{Paints, paints-of}
+use lib.ListN.{length}
 use Rattle.buffers.proofs.Split.{is-false}
 use Rattle.registers.specs.Setting.{rasterWords}
 use Rattle.registers.specs.declared.setting.Setting.{Setting}
@@ -27,14 +26,8 @@ use Rattle.marks.proofs.Bytes.{words-total}
 use Rattle.marks.proofs.Flags.{flagged-as, flagged-join}
 use Rattle.marks.proofs.Parts.{part-inside}
 use Rattle.marks.proofs.Showing.{shown-some, shown-join}
+use Rattle.marks.proofs.Spanned.{bytes-only}
 use Rattle.marks.proofs.Totals.{total-as, total-split}
-
--- The table of bytes for pixel q alone.
-pub bytes-only : (d q : ℕ) → Tabled (bytesOnly d q) 256 (byteBright (only q) d)
-unfolding bytesOnly
-bytes-only d q =
-    let p : Paints 0 (replicate 256 0) (bytesOnly d q) 0 256 (byteBright (only q) d) = paints-of (omega arith) refl in
-    record { len = p .len; on = λ k l. p .on k (omega arith) l }
 
 -- n words from one on, pixel by pixel.
 words-from : (pixels bytes : List ℕ) (d : ℕ) → Depth d → Tabled bytes 256 (byteBright pixels d) → (ws : List ℕ) (from n : ℕ)

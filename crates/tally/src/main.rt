@@ -12,7 +12,7 @@ use said::write;
 use sheets::Parts;
 use sheets::input::take_input;
 use threshold::Threshold;
-use threshold::threshold;
+use threshold::asked;
 ghost use Prim.Native.Nat.{_≤_};
 ghost use lib.ListN.{length};
 
@@ -67,9 +67,12 @@ fn tally_input(threshold: u8) {
 }
 
 fn main() {
-    match threshold() {
+    match asked() {
         Threshold::Wrong => {
-            io::write_all(libc::STDERR_FILENO, b"the threshold is a number from 0 to 255\n");
+            io::write_all(
+                libc::STDERR_FILENO,
+                b"the threshold is a number from 0 to 255\n",
+            );
         }
         Threshold::Is(n) => tally_input(n),
     }

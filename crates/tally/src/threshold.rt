@@ -1,6 +1,5 @@
 // The threshold that the program was started with.
 ghost use Prim.Native.Nat.{_≤_};
-ghost use lib.ListN.{length};
 
 pub enum Threshold {
     Is(u8),
@@ -40,7 +39,7 @@ fn threshold_of(digits: &[u8]) -> Threshold {
 }
 
 // The first argument, 128 where there is none.
-pub fn threshold() -> Threshold {
+pub fn asked() -> Threshold {
     if os::arg_count() < 2 {
         return Threshold::Is(128);
     }
