@@ -1,6 +1,7 @@
 // What is said of the entries: a line for each displayed raster, and a last line with the sum of their marks.
 use libc::STDOUT_FILENO;
 use registers::setting::Setting;
+ghost use Prim.Native.Nat.{_≤_};
 
 // Writes some text, and answers whether all of it was written.
 pub fn write(text: &[u8]) -> bool {
@@ -18,10 +19,17 @@ fn say(label: &[u8], n: u32) -> bool {
     write(label) && write(&digits[..count])
 }
 
-// A number of an entry, 0 behind the last.
-fn number_at(numbers: &[u16; 3072], r: u16, k: usize) -> u32 {
-    let at = 3 * (r as usize % 1024) + k % 3;
-    numbers[at] as u32
+fn wide(n: u16) -> u32
+    ensures { λ r. ⌜ r ≤ 65535 ⌝ }
+{
+    n as u32
+}
+
+// A number of entry r: its marks, its least or its greatest grey.
+fn number_at(numbers: &[u16; 3072], r: u16, k: usize) -> u32
+    ensures { λ n. ⌜ n ≤ 65535 ⌝ }
+{
+    wide(numbers[3 * (r as usize % 1024) + k % 3])
 }
 
 fn say_entry(raster: u32, count: u32, least: u32, greatest: u32) -> bool {
@@ -35,7 +43,7 @@ fn say_entry(raster: u32, count: u32, least: u32, greatest: u32) -> bool {
 // Entry r, and whether all of it was written.
 fn say_raster(s: Setting, numbers: &[u16; 3072], r: u16) -> bool {
     say_entry(
-        s.vds.0 as u32 + r as u32,
+        wide(s.vds.0) + wide(r),
         number_at(numbers, r, 0),
         number_at(numbers, r, 1),
         number_at(numbers, r, 2),

@@ -18,10 +18,13 @@ fn number(digits: &[u8]) -> u32 {
     let mut i: usize = 0;
     while i < digits.len() {
         let digit = wide(digits[i]);
-        if (digit < 48) | (57 < digit) {
+        if digit < 48 {
             return 256;
         }
-        n = 10 * n + digit - 48;
+        if 57 < digit {
+            return 256;
+        }
+        n = 10 * n + (digit - 48);
         if 255 < n {
             return 256;
         }
