@@ -47,6 +47,10 @@ use Rattle.vombelishi.proofs.sounds.vom_sound.Kinds as vom-sound-kinds
 use Rattle.vombelishi.proofs.sounds.vom_sound.Reads as vom-sound-reads
 use Rattle.vombelishi.proofs.sounds.vom_sound_pair.Kinds as vom-sound-pair-kinds
 use Rattle.vombelishi.proofs.sounds.vom_sound_pair.Reads as vom-sound-pair-reads
+use Rattle.vombelishi.proofs.summaries.vom_summaries.Kinds as vom-summaries-kinds
+use Rattle.vombelishi.proofs.summaries.vom_summaries.Reads as vom-summaries-reads
+use Rattle.vombelishi.proofs.summaries.vom_replace.Kinds as vom-replace-kinds
+use Rattle.vombelishi.proofs.summaries.vom_replace.Reads as vom-replace-reads
 use Rattle.vombelishi.proofs.texts.vom_text.Kinds as vom-text-kinds
 use Rattle.vombelishi.proofs.texts.vom_text.Reads as vom-text-reads
 
@@ -87,6 +91,13 @@ one-vom-raster-words κs a x y s t p q = (p .0 ∙ sym (q .0), p .1 ∙ sym (q .
 
 pub one-vom-marks : OneState 5 vom-marks-kinds.ps vom-marks-kinds.r (λ κs s. now (s .1 .1 .1 .1 .1 .0)) vom-marks-reads.Post
 one-vom-marks κs a x y s t p q = (p .0 ∙ sym (q .0), p .1 ∙ sym (q .1))
+
+pub one-vom-summaries : OneState 5 vom-summaries-kinds.ps vom-summaries-kinds.r (λ κs s. now (s .1 .1 .1 .1 .1 .0)) vom-summaries-reads.Post
+one-vom-summaries κs a x y s t p q = (p .0 ∙ sym (q .0), p .1 ∙ sym (q .1))
+
+pub one-vom-replace : OneState {A = List ℕ × List ℕ} 5 vom-replace-kinds.ps vom-replace-kinds.r
+    (λ κs s. (now (s .1 .1 .0), now (s .1 .1 .1 .1 .1 .1 .1 .0))) vom-replace-reads.Post
+one-vom-replace κs a x y s t p q = (p .0 ∙ sym (q .0), λ i. ((p .1 ∙ sym (q .1)) i, (p .2 ∙ sym (q .2)) i))
 
 pub one-vom-check : OneState 3 vom-check-kinds.ps vom-check-kinds.r (λ κs s. now (s .1 .1 .0)) vom-check-reads.Post
 one-vom-check κs a x y s t p q = (p .0 ∙ sym (q .0), p .1 ∙ sym (q .1))
