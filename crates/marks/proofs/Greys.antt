@@ -1,6 +1,6 @@
 -- The entry of a displayed raster by its cells and by its pixels: a code 5 cell shows the grey of its pixel, and a raster shows the pixels of
 -- its display positions that are not covered.
-use Prim.Native.Nat.{ℕ, zero, suc, _+_, _-_, _/_, _^_, _<_, _≤_}
+use Prim.Native.Nat.{ℕ, zero, suc, _+_, _-_, _/_, _<_, _≤_}
 use mathlib.Core.Bool.{Bool, true, false, not, _&&_, and-false}
 use mathlib.Core.List.{List}
 use mathlib.Core.Logic.{inl, inr}
@@ -25,10 +25,10 @@ use Rattle.marks.specs.Extremes.{leastOf, greatestOf}
 use Rattle.marks.specs.Marks.{isMark}
 use Rattle.marks.specs.Summaries.{greyIn, rasterMarks, leastGrey, greatestGrey, entryOf}
 use Rattle.marks.specs.inner.Bright.{Tabled, bright}
-use Rattle.marks.specs.inner.Seen.{only}
-use Rattle.marks.specs.inner.Shown.{greyAt, shownAt, shownTotal, seenFrom, seenGrey, entryBy}
+use Rattle.marks.specs.inner.Seen.{only, pixelsFor}
+use Rattle.marks.specs.inner.Shown.{greyAt, litBy, shownAt, shownTotal, seenFrom, seenGrey, entryBy}
 use Rattle.marks.proofs.Flags.{only-at}
-use Rattle.marks.proofs.Least.{AllAmong, least-same, greatest-same, pixels-most}
+use Rattle.marks.proofs.Least.{AllAmong, least-same, greatest-same, pixels-enough, pixels-most}
 use Rattle.marks.proofs.Totals.{total-as, total-window}
 
 -- Some term of a sum that is not 0 is not 0; and a term that is not 0 makes a sum that is not.
@@ -57,8 +57,11 @@ term-some f (suc n) k l h =
       | inr m ↦ let e : k ≡ n = omega arith in let here : 0 < f n = rw e at h in omega arith
     ]
 
+logical-for : (s : Setting) (video : List ℕ) → Accepted s → (x y : ℕ) → logical s video x y < pixelsFor (s .depth)
+logical-for s video a x y = omega (arith, pixel-below video (s .depth) (position s x y), pixels-enough (a .depth))
+
 logical-below : (s : Setting) (video : List ℕ) → Accepted s → (x y : ℕ) → logical s video x y < 256
-logical-below s video a x y = omega (arith, pixel-below video (s .depth) (position s x y), pixels-most (s .depth) (a .depth))
+logical-below s video a x y = omega (arith, logical-for s video a x y, pixels-most (s .depth))
 
 bit-some : (t : Bool) → 0 < bit t → t ≡ true
 bit-some true h = refl
@@ -70,6 +73,11 @@ record Shows (s : Setting) (video cursor : List ℕ) (y q : ℕ) : Type 0 where
   low : at < s .de .0 - s .ds .0
   clear : covered s cursor (s .ds .0 + at) y ≡ false
   same : logical s video (s .ds .0 + at) y ≡ q
+
+-- Bright by its grey in a table, a pixel is bright.
+pub lit-bright : (g : Registers) (d threshold : ℕ) {greys pixels : List ℕ} → Tabled greys 256 (greyAt g d) → Tabled pixels 256 (litBy greys threshold)
+    → Tabled pixels 256 (bright g d threshold)
+lit-bright g d threshold t u = record { len = u .len; on = λ p l. u .on p l ∙ ap (λ v. bit (leb threshold v)) (t .on p l) }
 
 module _ (g : Registers) (s : Setting) (video cursor : List ℕ) (a : Accepted s) (y : ℕ) where
   module _ (x : ℕ) where
@@ -160,7 +168,7 @@ module _ (g : Registers) (s : Setting) (video cursor : List ℕ) (a : Accepted s
               let some : 0 < bit (eqb p q) = rw (zero-add (w .at), e, only-at q p l) at (w .some) in
               record { at = w .at; low = w .low; clear = e; same = eqb-true p q (bit-some (eqb p q) some) }
 
-      cells-pixels : AllAmong (λ none. greyIn g s video cursor none y) (s .n .0) (λ none. seenGrey greys s video cursor none y) (2 ^ s .depth)
+      cells-pixels : AllAmong (λ none. greyIn g s video cursor none y) (s .n .0) (λ none. seenGrey greys s video cursor none y) (pixelsFor (s .depth))
       cells-pixels x l =
           elim (true-or-false (not (covered s cursor x y) && inDisplay s x y)) [
             | inl e ↦
@@ -171,15 +179,15 @@ module _ (g : Registers) (s : Setting) (video cursor : List ℕ) (a : Accepted s
                 let seen = rw back at (seen-at (x - s .ds .0) (omega (arith, d .left, d .right)) clear) in
                 inr (record {
                   at = logical s video x y;
-                  low = pixel-below video (s .depth) (position s x y);
+                  low = logical-for s video a x y;
                   same = λ none. grey-pixel x e none ∙ sym (seen-grey (logical s video x y) none (logical-below s video a x y) seen);
                 })
             | inr e ↦ inl (grey-none x e)
           ]
 
-      pixels-cells : AllAmong (λ none. seenGrey greys s video cursor none y) (2 ^ s .depth) (λ none. greyIn g s video cursor none y) (s .n .0)
+      pixels-cells : AllAmong (λ none. seenGrey greys s video cursor none y) (pixelsFor (s .depth)) (λ none. greyIn g s video cursor none y) (s .n .0)
       pixels-cells q l =
-          let few : q < 256 = omega (arith, pixels-most (s .depth) (a .depth)) in
+          let few : q < 256 = omega (arith, pixels-most (s .depth)) in
           elim (lt-or-le 0 (seenFrom s video cursor y 0 (s .de .0 - s .ds .0) q)) [
             | inl h ↦
                 let w = at-seen q few h in
@@ -193,16 +201,16 @@ module _ (g : Registers) (s : Setting) (video cursor : List ℕ) (a : Accepted s
             | inr h ↦ inl (λ none. rw (le-ltb 0 (seenFrom s video cursor y 0 (s .de .0 - s .ds .0) q) h))
           ]
 
-      pub least-seen : leastGrey g s video cursor y ≡ leastOf (seenGrey greys s video cursor 255 y) (2 ^ s .depth)
+      pub least-seen : leastGrey g s video cursor y ≡ leastOf (seenGrey greys s video cursor 255 y) (pixelsFor (s .depth))
       unfolding leastGrey
       least-seen =
-          least-same (λ none. greyIn g s video cursor none y) (λ none. seenGrey greys s video cursor none y) (s .n .0) (2 ^ s .depth)
+          least-same (λ none. greyIn g s video cursor none y) (λ none. seenGrey greys s video cursor none y) (s .n .0) (pixelsFor (s .depth))
           cells-pixels pixels-cells
 
-      pub greatest-seen : greatestGrey g s video cursor y ≡ greatestOf (seenGrey greys s video cursor 0 y) (2 ^ s .depth)
+      pub greatest-seen : greatestGrey g s video cursor y ≡ greatestOf (seenGrey greys s video cursor 0 y) (pixelsFor (s .depth))
       unfolding greatestGrey
       greatest-seen =
-          greatest-same (λ none. greyIn g s video cursor none y) (λ none. seenGrey greys s video cursor none y) (s .n .0) (2 ^ s .depth)
+          greatest-same (λ none. greyIn g s video cursor none y) (λ none. seenGrey greys s video cursor none y) (s .n .0) (pixelsFor (s .depth))
           cells-pixels pixels-cells
 
       -- The entry by tables is the entry.

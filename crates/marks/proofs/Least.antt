@@ -1,27 +1,33 @@
 -- The least and the greatest of some numbers: one number further; and two rows of numbers that have the same ones have the same least and
 -- the same greatest.
-use Prim.Native.Nat.{ℕ, zero, suc, _+_, _*_, _%_, _^_, _<_, _≤_}
+use Prim.Native.Nat.{ℕ, zero, suc, _+_, _^_, _<_, _≤_}
 use mathlib.Core.Bool.{Bool, true, false}
 use mathlib.Core.Logic.{_⊎_, inl, inr}
-use mathlib.Core.Path.{_≡_, refl, _∙_}
-use native.Mathlib.Nat.{one-mul}
+use mathlib.Core.Path.{_≡_, refl}
 use native.Mathlib.Numerals.{add-one}
 use native.Mathlib.Omega.{arith}
 use borrow.Author.Tests.{ltb-true, ltb-false}
-use lib.Dec.{ltb}
-use lib.Pow.{shl-exact, pow-mono}
+use lib.Dec.{ltb, eqb}
 use Rattle.buffers.specs.Pick.{pick}
 use Rattle.buffers.proofs.Split.{lt-or-le}
 use Rattle.registers.specs.inner.Accepted.{Depth}
-use Rattle.registers.proofs.Words.{depth-most}
 use Rattle.marks.specs.Extremes.{smaller, larger, leastOf, greatestOf}
+use Rattle.marks.specs.inner.Seen.{pixelsFor}
 
--- How many pixels there are at a depth.
-pub pixels-end : (d : ℕ) → Depth d → 1 * 2 ^ d % 2 ^ 64 ≡ 2 ^ d
-pixels-end d h = shl-exact {a = 1} 1 d 64 (omega arith) (omega (arith, depth-most h)) ∙ one-mul (2 ^ d)
+-- A choice between two numbers lies where both do.
+picked : (P : ℕ → Type 0) (t : Bool) (a b : ℕ) → P a → P b → P (pick t a b)
+picked P true a b p q = p
+picked P false a b p q = q
 
-pub pixels-most : (d : ℕ) → Depth d → 2 ^ d ≤ 256
-pixels-most d h = pow-mono {j = 8} (depth-most h)
+-- All pixels of a depth are among those that are looked through, which are at most 256.
+pub pixels-enough : {d : ℕ} → Depth d → 2 ^ d ≤ pixelsFor d
+pixels-enough (inl e) = rw e (omega arith)
+pixels-enough (inr (inl e)) = rw e (omega arith)
+pixels-enough (inr (inr (inl e))) = rw e (omega arith)
+pixels-enough (inr (inr (inr e))) = rw e (omega arith)
+
+pub pixels-most : (d : ℕ) → pixelsFor d ≤ 256
+pixels-most d = picked (λ n. n ≤ 256) (eqb d 8) 256 16 (omega arith) (omega arith)
 
 pub least-more : {v w : ℕ} (f : ℕ → ℕ) (n : ℕ) → v ≡ leastOf f n → w ≡ f n → smaller v w ≡ leastOf f (n + 1)
 unfolding leastOf
@@ -30,11 +36,6 @@ least-more f n e h = rw (add-one, e, h)
 pub greatest-more : {v w : ℕ} (f : ℕ → ℕ) (n : ℕ) → v ≡ greatestOf f n → w ≡ f n → larger v w ≡ greatestOf f (n + 1)
 unfolding greatestOf
 greatest-more f n e h = rw (add-one, e, h)
-
--- A choice between two numbers lies where both do.
-picked : (P : ℕ → Type 0) (t : Bool) (a b : ℕ) → P a → P b → P (pick t a b)
-picked P true a b p q = p
-picked P false a b p q = q
 
 smaller-left : (a b : ℕ) → smaller a b ≤ a
 smaller-left a b = by (ltb b a) refl

@@ -1,12 +1,11 @@
 // The least and the greatest grey of the pixels that are flagged.
 use crate::entry::Entry;
 ghost use mathlib.Core.Path.{_≡_};
-ghost use Prim.Native.Nat.{_^_, _≤_};
+ghost use Prim.Native.Nat.{_≤_};
 ghost use lib.Dec.{eqb};
 ghost use Rattle.buffers.specs.Pick.{pick};
-ghost use Rattle.registers.specs.inner.Accepted.{Depth};
-ghost use Rattle.marks.specs.Extremes.{smaller, larger, leastOf, greatestOf};
-ghost use Rattle.marks.specs.inner.Seen.{flaggedGrey};
+ghost use Rattle.marks.specs.Extremes.{smaller, larger};
+ghost use Rattle.marks.specs.inner.Seen.{pixelsFor, flaggedEntry};
 
 fn smaller(a: u8, b: u8) -> u8
     ensures { λ r. ⌜ r ≡ smaller a b ⌝ }
@@ -42,16 +41,11 @@ fn wide(grey: u8) -> u16
     grey as u16
 }
 
-// The entry with some count, by the flags of the 2^depth pixels there are.
-pub fn entry_of(greys: &[u8; 256], flags: &[u8; 256], depth: u8, count: u32) -> Entry
-    requires { ⌜ Depth depth × (count ≤ 2048) ⌝ }
-    ensures { λ r. ⌜ r ≡ record {
-      count = count;
-      least = leastOf (flaggedGrey (now (greys .entry)) (now (flags .entry)) 255) (2 ^ depth);
-      greatest = greatestOf (flaggedGrey (now (greys .entry)) (now (flags .entry)) 0) (2 ^ depth);
-    } ⌝ }
+// The entry with some count, by the flags of the pixels below an end.
+fn entry_below(greys: &[u8; 256], flags: &[u8; 256], end: usize, count: u32) -> Entry
+    requires { ⌜ (end ≤ 256) × (count ≤ 2048) ⌝ }
+    ensures { λ r. ⌜ r ≡ flaggedEntry (now (greys .entry)) (now (flags .entry)) end count ⌝ }
 {
-    let end = 1usize << depth;
     let mut least: u8 = 255;
     let mut greatest: u8 = 0;
     let mut q: usize = 0;
@@ -65,4 +59,15 @@ pub fn entry_of(greys: &[u8; 256], flags: &[u8; 256], depth: u8, count: u32) -> 
         least: wide(least),
         greatest: wide(greatest),
     }
+}
+
+// By the flags of all pixels of a depth: two ends that are known beforehand make two loops of whole vectors.
+pub fn entry_of(greys: &[u8; 256], flags: &[u8; 256], depth: u8, count: u32) -> Entry
+    requires { ⌜ count ≤ 2048 ⌝ }
+    ensures { λ r. ⌜ r ≡ flaggedEntry (now (greys .entry)) (now (flags .entry)) (pixelsFor depth) count ⌝ }
+{
+    if depth == 8 {
+        return entry_below(greys, flags, 256, count);
+    }
+    entry_below(greys, flags, 16, count)
 }

@@ -5,8 +5,8 @@ use crate::holds::masks_of;
 use crate::rasters::by_pixels;
 use crate::rasters::raster_words;
 use crate::tables::bright_bytes;
-use crate::tables::bright_pixels;
 use crate::tables::greys_of;
+use crate::tables::lit_pixels;
 use cells::judge;
 use refusals::Answer;
 use refusals::Refusal;
@@ -45,7 +45,7 @@ fn put_summaries(
         return Answer::Refused(Refusal::Short);
     }
     let greys = greys_of(g, s.depth);
-    let pixels = bright_pixels(g, s.depth, threshold);
+    let pixels = lit_pixels(&greys, threshold);
     let bytes = bright_bytes(&pixels, s.depth);
     let masks = masks_of(s.depth);
     put_entries(
@@ -103,7 +103,7 @@ fn put_word(
     }
     video[index] = word;
     let greys = greys_of(g, s.depth);
-    let pixels = bright_pixels(g, s.depth, threshold);
+    let pixels = lit_pixels(&greys, threshold);
     let r = index / raster_words(s);
     let entry = by_pixels(s, video, cursor, &greys, &pixels, r);
     put_entry(out, r, entry);

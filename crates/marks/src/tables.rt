@@ -5,9 +5,11 @@ use colours::grey;
 use colours::shown;
 use registers::record::Registers;
 ghost use mathlib.Core.Path.{_≡_};
+ghost use lib.Dec.{leb};
 ghost use Rattle.registers.specs.inner.Accepted.{Depth};
+ghost use Rattle.marks.specs.Count.{bit};
 ghost use Rattle.marks.specs.inner.Bright.{Tabled, AtMost, lit, bright, byteBright};
-ghost use Rattle.marks.specs.inner.Shown.{greyAt};
+ghost use Rattle.marks.specs.inner.Shown.{greyAt, litBy};
 
 // 1 if the grey that an entry shows for a pixel is at or above the threshold, else 0.
 fn is_bright(entry: u16, depth: u8, threshold: u8, pixel: u8) -> u8
@@ -41,6 +43,29 @@ pub fn greys_of(g: Registers, depth: u8) -> [u8; 256]
     let mut k: usize = 0;
     while k < 256 {
         table[k] = grey(shown(palette[k % 16], depth, k as u8));
+        k += 1;
+    }
+    table
+}
+
+// 1 if a grey is at or above the threshold, else 0.
+fn is_lit(grey: u8, threshold: u8) -> u8
+    ensures { λ r. ⌜ r ≡ bit (leb threshold grey) ⌝ }
+{
+    if threshold <= grey {
+        return 1;
+    }
+    0
+}
+
+// The bright pixels, by their greys.
+pub fn lit_pixels(greys: &[u8; 256], threshold: u8) -> [u8; 256]
+    ensures { λ r. ⌜ Tabled r 256 (litBy (now (greys .entry)) threshold) ⌝ }
+{
+    let mut table = [0u8; 256];
+    let mut k: usize = 0;
+    while k < 256 {
+        table[k] = is_lit(greys[k], threshold);
         k += 1;
     }
     table

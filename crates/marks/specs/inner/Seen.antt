@@ -9,6 +9,8 @@ use lib.ListN.{length, getD, set, replicate}
 use Rattle.buffers.specs.Pick.{pick}
 use Rattle.buffers.specs.Painted.{painted}
 use Rattle.marks.specs.Count.{total, bit}
+use Rattle.marks.specs.Extremes.{leastOf, greatestOf}
+use Rattle.marks.specs.declared.entry.Entry.{Entry}
 use Rattle.marks.specs.inner.Bright.{byteBright, wordFrom}
 
 -- A table that has 1 for pixel q alone.
@@ -50,6 +52,19 @@ wordsMask masks ws from (suc n) = bitOr (wordsMask masks ws from n) (wordMask ma
 abbrev pub maskTimes : ℕ → ℕ → ℕ
 maskTimes mask q = pick (ltb q 16) (mask / 2 ^ q % 2) 0
 
+-- How many pixels are looked through at a depth: at least as many as there are.
+abbrev pub pixelsFor : ℕ → ℕ
+pixelsFor d = pick (eqb d 8) 256 16
+
 -- The grey of a pixel that is flagged; of any other a number that is said beside it.
 abbrev pub flaggedGrey : List ℕ → List ℕ → ℕ → ℕ → ℕ
 flaggedGrey greys flags none q = pick (eqb (getD flags q 0) 0) none (getD greys q 0)
+
+-- The entry with some count, by the flags of the pixels below an end.
+abbrev pub flaggedEntry : List ℕ → List ℕ → ℕ → ℕ → Entry
+flaggedEntry greys flags end count =
+    record {
+      count = count;
+      least = leastOf (flaggedGrey greys flags 255) end;
+      greatest = greatestOf (flaggedGrey greys flags 0) end;
+    }

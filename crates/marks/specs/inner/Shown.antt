@@ -1,9 +1,9 @@
 -- What a raster shows: sums of a table over its display positions, without those that the cursor covers. No public promise reaches this.
-use Prim.Native.Nat.{ℕ, _+_, _*_, _-_, _/_, _%_, _^_, _<_, _≤_}
+use Prim.Native.Nat.{ℕ, _+_, _*_, _-_, _/_, _%_, _<_, _≤_}
 use mathlib.Core.Bool.{true}
 use mathlib.Core.List.{List}
 use mathlib.Core.Path.{_≡_}
-use lib.Dec.{ltb}
+use lib.Dec.{ltb, leb}
 use lib.ListN.{getD}
 use Rattle.buffers.specs.Pick.{pick}
 use Rattle.registers.specs.Setting.{rasterWords}
@@ -13,17 +13,21 @@ use Rattle.colours.specs.Colour.{colourOf}
 use Rattle.colours.specs.Grey.{greyOf}
 use Rattle.cells.specs.Pixel.{logical}
 use Rattle.cells.specs.Cell.{covered}
-use Rattle.marks.specs.Count.{total}
+use Rattle.marks.specs.Count.{total, bit}
 use Rattle.marks.specs.Extremes.{leastOf, greatestOf}
 use Rattle.marks.specs.Summaries.{numberOf}
 use Rattle.marks.specs.inner.Bright.{Tabled, AtMost, byteBright}
-use Rattle.marks.specs.inner.Seen.{only, Masks}
+use Rattle.marks.specs.inner.Seen.{only, Masks, pixelsFor}
 use Rattle.marks.specs.declared.entry.Entry.{Entry}
 use Rattle.marks.specs.declared.part.Part.{Part}
 
 -- The grey that a pixel shows.
 abbrev pub greyAt : Registers → ℕ → ℕ → ℕ
 greyAt g d p = greyOf (colourOf g d p)
+
+-- 1 for a pixel whose grey in a table is at or above the threshold.
+abbrev pub litBy : List ℕ → ℕ → ℕ → ℕ
+litBy greys threshold p = bit (leb threshold (getD greys p 0))
 
 -- What a table has for display position p of raster y, nothing where it is covered; and the sum over n positions from a on.
 unfoldable pub shownAt : Setting → List ℕ → List ℕ → List ℕ → ℕ → ℕ → ℕ
@@ -51,8 +55,8 @@ unfoldable pub entryBy : List ℕ → List ℕ → Setting → List ℕ → List
 entryBy greys pixels s video cursor y =
     record {
       count = shownTotal s video cursor pixels y 0 (s .de .0 - s .ds .0);
-      least = leastOf (seenGrey greys s video cursor 255 y) (2 ^ s .depth);
-      greatest = greatestOf (seenGrey greys s video cursor 0 y) (2 ^ s .depth);
+      least = leastOf (seenGrey greys s video cursor 255 y) (pixelsFor (s .depth));
+      greatest = greatestOf (seenGrey greys s video cursor 0 y) (pixelsFor (s .depth));
     }
 
 unfoldable pub numberBy : List ℕ → List ℕ → Setting → List ℕ → List ℕ → ℕ → ℕ

@@ -26,9 +26,8 @@ entry-of-requires c κs = search needs
 
 returns : tie.Need-returns
 returns c =
-    let s = c .before .before .before .before .before .before .before .before .before in
     let shown = c .before .before .shown-in .ensures in
-    entry-shown _ _ _ _ _ _ (s .pre .0 .accepted) (zeros-at 256) (omega arith) (shown .2) (shown .0) (c .entry-of .ensures)
+    entry-shown _ _ _ _ _ _ (zeros-at 256) (omega arith) (shown .2) (shown .0) (c .entry-of .ensures)
 
 pub by-pixels-spec : {M : Type 1} → statement M
 by-pixels-spec =

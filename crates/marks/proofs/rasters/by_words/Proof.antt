@@ -127,7 +127,7 @@ entry-of-requires c κs =
     let e = words .raster-words .ensures in
     let inside = part .cursor-part .ensures in
     let sums = parts-shown _ a _ _ _ _ e _ inside _ _ (s .pre .2 .summed) (left .span .ensures .0) (middle .shown-in .ensures .0) (right .span2 .ensures .0) in
-    (a .depth, raster-few _ _ _ _ _ a (s .pre .2 .few) sums)
+    raster-few _ _ _ _ _ a (s .pre .2 .few) sums
 
 returns : tie.Need-returns
 returns c =
@@ -142,7 +142,7 @@ returns c =
     let inside = part .cursor-part .ensures in
     let sums = parts-shown _ a _ _ _ _ e _ inside _ _ (s .pre .2 .summed) (left .span .ensures .0) (middle .shown-in .ensures .0) (right .span2 .ensures .0) in
     let seen = parts-seen _ a _ _ _ _ e _ inside (left .span .ensures .2) (middle .shown-in .ensures .2) (right .span2 .ensures .2) in
-    entry-shown _ _ _ _ _ _ a (zeros-at 256) refl seen sums (c .entry-of .ensures)
+    entry-shown _ _ _ _ _ _ (zeros-at 256) refl seen sums (c .entry-of .ensures)
 
 pub by-words-spec : {M : Type 1} → statement M
 by-words-spec =

@@ -3,6 +3,7 @@ use native.Mathlib.Omega.{arith}
 use borrow.Author.Needs.{needs}
 use Rattle.cells.proofs.Pictures.{given-picture}
 use Rattle.marks.proofs.Calls.{summaries-short, summaries-put}
+use Rattle.marks.proofs.Greys.{lit-bright}
 use Rattle.marks.proofs.Put.{all-put}
 use Rattle.marks.proofs.Tabled.{bright-most}
 use Rattle.marks.proofs.summaries.put_summaries.Statement.{statement}
@@ -24,19 +25,22 @@ returns c =
 greys-of-requires : tie.Need-greys-of-requires
 greys-of-requires c κs = search needs
 
-bright-pixels-requires : tie.Need-bright-pixels-requires
-bright-pixels-requires c κs = search needs
+lit-pixels-requires : tie.Need-lit-pixels-requires
+lit-pixels-requires c κs = search needs
 
 bright-bytes-requires : tie.Need-bright-bytes-requires
 bright-bytes-requires c κs =
-    let s = c .before .before .before .before .before .before .before .before in (
+    let pixels = c .before in
+    let greys = pixels .before .before in
+    let s = greys .before .before .before .before .before .before in (
       given-picture (s .args .g) _ _ (s .args .s) (s .pre) .accepted .depth,
-      bright-most (s .args .g) (s .args .s .depth) (s .args .threshold) (c .before .bright-pixels .ensures),
+      bright-most (s .args .g) (s .args .s .depth) (s .args .threshold)
+          (lit-bright (s .args .g) (s .args .s .depth) (s .args .threshold) (greys .greys-of .ensures) (pixels .lit-pixels .ensures)),
     )
 
 masks-of-requires : tie.Need-masks-of-requires
 masks-of-requires c κs =
-    let s = c .before .before .before .before .before .before .before .before .before in
+    let s = c .before .before .before .before .before .before .before .before .before .before in
     given-picture (s .args .g) _ _ (s .args .s) (s .pre) .accepted .depth
 
 put-entries-requires : tie.Need-put-entries-requires
@@ -44,11 +48,13 @@ put-entries-requires c κs =
     let masks = c .before .before .before .before .before in
     let bytes = masks .before in
     let pixels = bytes .before .before in
-    let test = pixels .before .before in
+    let greys = pixels .before .before in
+    let test = greys .before in
     let s = test .before .before .before .before .before in (
       given-picture (s .args .g) _ _ (s .args .s) (s .pre),
       record {
-        few = bright-most (s .args .g) (s .args .s .depth) (s .args .threshold) (pixels .bright-pixels .ensures);
+        few = bright-most (s .args .g) (s .args .s .depth) (s .args .threshold)
+            (lit-bright (s .args .g) (s .args .s .depth) (s .args .threshold) (greys .greys-of .ensures) (pixels .lit-pixels .ensures));
         summed = bytes .bright-bytes .ensures;
         held = masks .masks-of .ensures;
       },
@@ -63,12 +69,14 @@ returns-2 : tie.Need-returns-2
 returns-2 c =
     let put = c .before .before in
     let pixels = put .before .before .before .before .before .before .before .before .before in
-    let test = pixels .before .before in
+    let greys = pixels .before .before in
+    let test = greys .before in
     let s = test .before .before .before .before .before in
     let p = given-picture (s .args .g) _ _ (s .args .s) (s .pre) in
     let room = rw (test .before .displayed .ensures) at (test .if1 .left) in
     summaries-put (s .args .g) _ _ (s .args .threshold) _ (s .args .s) (s .pre) _ room
-    (all-put (s .args .g) (s .args .s) _ _ (s .args .threshold) _ _ (p .accepted) (pixels .before .greys-of .ensures) (pixels .bright-pixels .ensures)
+    (all-put (s .args .g) (s .args .s) _ _ (s .args .threshold) _ _ (p .accepted) (greys .greys-of .ensures)
+    (lit-bright (s .args .g) (s .args .s .depth) (s .args .threshold) (greys .greys-of .ensures) (pixels .lit-pixels .ensures))
     (s .args .out .now) room (rw (test .before .displayed .ensures) at (put .put-entries .ensures)))
 
 pub put-summaries-spec : {M : Type 1} → statement M
@@ -79,7 +87,7 @@ put-summaries-spec =
     mul-if1
     returns
     greys-of-requires
-    bright-pixels-requires
+    lit-pixels-requires
     bright-bytes-requires
     masks-of-requires
     put-entries-requires

@@ -5,6 +5,7 @@ use borrow.Author.Needs.{needs}
 use Rattle.cells.proofs.Pictures.{given-picture}
 use Rattle.marks.specs.Summaries.{rasterOf}
 use Rattle.marks.proofs.Calls.{replace-outside, replace-short, replace-put}
+use Rattle.marks.proofs.Greys.{lit-bright}
 use Rattle.marks.proofs.Put.{one-put}
 use Rattle.marks.proofs.Replacing.{raster-some, raster-displayed, replaced-picture}
 use Rattle.marks.proofs.Tabled.{bright-most}
@@ -40,34 +41,37 @@ slice-write-video c = search needs
 greys-of-requires : tie.Need-greys-of-requires
 greys-of-requires c κs = search needs
 
-bright-pixels-requires : tie.Need-bright-pixels-requires
-bright-pixels-requires c κs = search needs
+lit-pixels-requires : tie.Need-lit-pixels-requires
+lit-pixels-requires c κs = search needs
 
 raster-words-requires : tie.Need-raster-words-requires
 raster-words-requires c κs =
-    let s = c .before .before .before .before .before .before .before .before in
+    let s = c .before .before .before .before .before .before .before .before .before in
     given-picture (s .args .g) _ _ (s .args .s) (s .pre) .accepted
 
 div-r : tie.Need-div-r
 div-r c =
-    let s = c .before .before .before .before .before .before .before .before .before in
+    let s = c .before .before .before .before .before .before .before .before .before .before in
     rw (c .raster-words .ensures) (raster-some (s .args .s) (given-picture (s .args .g) _ _ (s .args .s) (s .pre) .accepted))
 
 by-pixels-requires : tie.Need-by-pixels-requires
 by-pixels-requires c κs =
     let words = c .before .before .before in
-    let here = words .before .before .before .before .before in
+    let pixels = words .before in
+    let greys = pixels .before .before in
+    let here = greys .before .before .before in
     let s = here .before .before .before .before in
     let p = given-picture (s .args .g) _ _ (s .args .s) (s .pre) in (
       replaced-picture (s .args .s) _ _ (s .args .index) (s .args .word) p,
       rw (words .raster-words .ensures) (raster-displayed (s .args .s) (p .accepted) (s .args .index) (rw (p .video-words) at (here .if1 .left))),
-      bright-most (s .args .g) (s .args .s .depth) (s .args .threshold) (words .before .bright-pixels .ensures),
+      bright-most (s .args .g) (s .args .s .depth) (s .args .threshold)
+          (lit-bright (s .args .g) (s .args .s .depth) (s .args .threshold) (greys .greys-of .ensures) (pixels .lit-pixels .ensures)),
     )
 
 put-entry-requires : tie.Need-put-entry-requires
 put-entry-requires c κs =
     let words = c .before .before .before .before .before in
-    let test = words .before .before .before in
+    let test = words .before .before .before .before in
     let here = test .before .before in
     let s = here .before .before .before .before in
     let p = given-picture (s .args .g) _ _ (s .args .s) (s .pre) in
@@ -85,15 +89,17 @@ returns-3 c =
     let put = c .before .before in
     let made = put .before .before in
     let words = made .before .before .before .before in
-    let tables = words .before in
-    let test = tables .before .before in
+    let pixels = words .before in
+    let greys = pixels .before .before in
+    let test = greys .before in
     let here = test .before .before in
     let s = here .before .before .before .before in
     let p = given-picture (s .args .g) _ _ (s .args .s) (s .pre) in
     let room = rw (test .before .displayed .ensures) at (test .if2 .left) in
     let r = raster-displayed (s .args .s) (p .accepted) (s .args .index) (rw (p .video-words) at (here .if1 .left)) in
     replace-put (s .args .g) _ _ (s .args .threshold) _ (s .args .index) (s .args .word) (s .args .s) (s .pre) (here .if1 .left) _ room
-    (one-put (s .args .g) (s .args .s) _ _ (s .args .threshold) _ _ (p .accepted) (tables .before .greys-of .ensures) (tables .bright-pixels .ensures)
+    (one-put (s .args .g) (s .args .s) _ _ (s .args .threshold) _ _ (p .accepted) (greys .greys-of .ensures)
+    (lit-bright (s .args .g) (s .args .s .depth) (s .args .threshold) (greys .greys-of .ensures) (pixels .lit-pixels .ensures))
     (s .args .out .now) (made .by-pixels .result) (rasterOf (s .args .s) (s .args .index)) r room
     (rw (words .raster-words .ensures) at (made .by-pixels .ensures)) (rw (words .raster-words .ensures) at (put .put-entry .ensures)))
 
@@ -108,7 +114,7 @@ put-word-spec =
     mul-video
     slice-write-video
     greys-of-requires
-    bright-pixels-requires
+    lit-pixels-requires
     raster-words-requires
     div-r
     by-pixels-requires
