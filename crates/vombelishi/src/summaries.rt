@@ -27,7 +27,13 @@ pub extern "C" fn vom_summaries(
     if lacks(values, written) {
         return SHORT;
     }
-    answered(marks::summaries::summaries(record_of(values, written), video, cursor, threshold, entries))
+    answered(marks::summaries::summaries(
+        record_of(values, written),
+        video,
+        cursor,
+        threshold,
+        entries,
+    ))
 }
 
 // One word, and its raster's three numbers; 13 for slices shorter than 64, then 3 to 9, 11, 18, 13.
@@ -53,5 +59,13 @@ pub extern "C" fn vom_replace(
     if lacks(values, written) {
         return SHORT;
     }
-    answered(marks::summaries::replace(record_of(values, written), video, cursor, threshold, index, word, entries))
+    answered(marks::summaries::replace(
+        record_of(values, written),
+        video,
+        cursor,
+        threshold,
+        index,
+        word,
+        entries,
+    ))
 }
