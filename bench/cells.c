@@ -1,4 +1,4 @@
-// A frame and a mark count, cell by cell from the rule.
+// A frame, a mark count, and the marks and end greys of each displayed raster, cell by cell from the rule.
 #include "bench.h"
 
 static int within(uint32_t from, uint32_t at, uint32_t to) { return from <= at && at < to; }
@@ -34,4 +34,29 @@ uint64_t BY(count)(const struct picture *p, uint32_t threshold) {
             marks += c / 8192 == 5 && grey(c) >= threshold;
         }
     return marks;
+}
+
+// A raster's marks, its least and its greatest grey.
+static void entry(const struct picture *p, uint32_t y, uint32_t threshold, uint16_t *out) {
+    uint32_t marks = 0, least = 255, greatest = 0;
+    for (uint32_t x = 0; x < p->n; x++) {
+        uint16_t c = cell(p, x, y);
+        if (c / 8192 != 5) continue;
+        uint32_t g = grey(c);
+        marks += g >= threshold;
+        if (g < least) least = g;
+        if (g > greatest) greatest = g;
+    }
+    out[0] = marks, out[1] = least, out[2] = greatest;
+}
+
+void BY(entries)(const struct picture *p, uint32_t threshold, uint16_t *out) {
+    for (uint32_t y = p->vds; y < p->vde; y++, out += 3) entry(p, y, threshold, out);
+}
+
+// The picture's own list is lent to be changed.
+void BY(replace)(const struct picture *p, uint32_t *video, uint32_t threshold, size_t index, uint32_t word, uint16_t *out) {
+    size_t r = index / ((p->de - p->ds) * p->depth / 32);
+    video[index] = word;
+    entry(p, p->vds + r, threshold, out + 3 * r);
 }

@@ -7,16 +7,17 @@ static const struct {
     const char *name;
     work *run;
 } works[] = {
-    {"frame", ours_frame}, {"raster", ours_raster}, {"marks", ours_marks}, {"sound", ours_sound},
-    {"copy", ours_copy}, {"write", ours_write}, {"text", ours_text}, {"queue", ours_queue},
+    {"frame", ours_frame}, {"raster", ours_raster}, {"marks", ours_marks}, {"summaries", ours_summaries}, {"replace", ours_replace},
+    {"sound", ours_sound}, {"copy", ours_copy}, {"write", ours_write}, {"text", ours_text}, {"queue", ours_queue},
     {"frame-lines", by_lines_clang}, {"frame-stretches", tuned_clang}, {"frame-cells", per_cell_clang},
-    {"marks-cells", count_cells_clang}, {"sound-loop", loop_sound_clang}, {"copy-loop", loop_copy_clang}, {"write-loop", loop_put_clang},
-    {"queue-ring", ring_queue_clang},
+    {"marks-cells", count_cells_clang}, {"summaries-cells", entry_cells_clang}, {"replace-cells", replace_cells_clang},
+    {"sound-loop", loop_sound_clang}, {"copy-loop", loop_copy_clang}, {"write-loop", loop_put_clang}, {"queue-ring", ring_queue_clang},
 };
 
 static void make(const char *input, uint32_t depth) {
     if (!strcmp(input, "1024x312")) usual(depth);
     else if (!strcmp(input, "2048x1024")) largest(depth);
+    else if (!strcmp(input, "1024x32")) low(depth);
     else if (!strcmp(input, "65536-bytes-of-sound")) set_sound();
     else if (!strcmp(input, "4194304-bytes")) set_plate();
     else if (!strcmp(input, "65536-bytes")) set_text();

@@ -19,7 +19,7 @@ enum { MOST_RUNS = 7, MOST_ROUNDS = 1000 };
 // What ours wrote, kept to be compared.
 static uint32_t words_kept[PLATE_WORDS];
 static uint8_t file_kept[PLATE];
-static uint16_t cells_kept[LARGEST];
+static uint16_t cells_kept[LARGEST], entries_kept[ENTRIES];
 static int16_t sound_kept[SOUNDS * 8];
 static const struct record *record; // the same registers in the Rust wrapper's type
 
@@ -84,6 +84,13 @@ static void same_frame(work *other, const char *name) {
     if (memcmp(cells, cells_kept, sizeof cells)) die(name);
 }
 
+static void same_marks(void) {
+    ours_marks();
+    uint64_t ours = marks;
+    count_cells_gcc();
+    if (marks != ours) die("the mark counts differ");
+}
+
 static void same_frames(void) {
     record = wrapped_record(values, written);
     memset(cells, 0xAA, sizeof cells);
@@ -95,11 +102,20 @@ static void same_frames(void) {
     same_frame(tuned_clang, "the frame of stretches by clang differs");
     same_frame(by_lines_clang, "the frame of lines by clang differs");
     same_frame(rust, "the Rust frame differs");
-    ours_marks();
-    uint64_t ours = marks;
-    count_cells_gcc();
-    if (marks != ours) die("the mark counts differ");
+    same_marks();
 }
+
+static void same_entries(work *ours, work *other) {
+    memset(entries, 0xAA, sizeof entries);
+    ours();
+    memcpy(entries_kept, entries, sizeof entries);
+    memset(entries, 0xAA, sizeof entries);
+    other();
+    if (memcmp(entries, entries_kept, sizeof entries)) die("the entries differ");
+}
+
+static void same_summaries(void) { same_entries(ours_summaries, entry_cells_gcc); }
+static void same_replaced(void) { same_entries(ours_replace, replace_cells_gcc); }
 
 static void same_sound(work *other) {
     if (!other) return;
@@ -163,24 +179,30 @@ static void print_plate(const char *printer, const char *plate) {
 // ---- the tables
 
 static const uint32_t depths[4] = {1, 2, 4, 8};
+static const struct size {
+    const char *name;
+    setting *set;
+    int rounds;
+} sizes[4] = {{"1024 x 312", usual, 400}, {"2048 x 1024", largest, 60}, {"1024 x 32", low, 400}, {"1024 x 1", smallest, 400}};
+
+// A row for each depth of a size; first what compares the others with ours.
+static void rows(const struct size *size, void same(void), work *const *runs, int count) {
+    for (int i = 0; i < 4; i++) {
+        char name[64];
+        sprintf(name, "%s, depth %u", size->name, depths[i]);
+        size->set(depths[i]);
+        same();
+        row(name, runs, count, size->rounds);
+    }
+}
 
 static void time_frames(void) {
-    static const struct {
-        const char *name;
-        setting *set;
-        int rounds;
-    } sizes[3] = {{"1024 x 312", usual, 400}, {"2048 x 1024", largest, 60}, {"1024 x 1", smallest, 400}};
     work *const runs[MOST_RUNS] = {ours_frame, by_wrapper, per_cell_gcc, tuned_gcc, tuned_clang, rust, set_cells};
     printf("%-26s %9s %9s %9s %9s %9s %9s %9s\n", "frame", "ours us", "ours by", "per cell", "tuned", "tuned", "Rust", "memset");
     printf("%-26s %9s %9s %9s %9s %9s\n", "", "", "wrapper", "gcc", "gcc", "clang");
-    for (int size = 0; size < 3; size++)
-        for (int i = 0; i < 4; i++) {
-            char name[64];
-            sprintf(name, "%s, depth %u", sizes[size].name, depths[i]);
-            sizes[size].set(depths[i]);
-            same_frames();
-            row(name, runs, MOST_RUNS, sizes[size].rounds);
-        }
+    rows(&sizes[0], same_frames, runs, MOST_RUNS);
+    rows(&sizes[1], same_frames, runs, MOST_RUNS);
+    rows(&sizes[3], same_frames, runs, MOST_RUNS);
 }
 
 static int by_size(const void *a, const void *b) {
@@ -196,36 +218,41 @@ static double time_of(work *run) {
 }
 
 static void print_lines(void) {
-    static const struct {
-        setting *set;
-        int rounds;
-    } sizes[2] = {{usual, MOST_ROUNDS}, {largest, 100}};
+    static const int rounds[2] = {MOST_ROUNDS, 100};
     static double pairs[MOST_ROUNDS];
     for (int size = 0; size < 2; size++)
         for (int i = 0; i < 4; i++) {
             double ours = 1, theirs = 1;
             sizes[size].set(depths[i]);
             same_frames();
-            for (int r = 0; r < sizes[size].rounds; r++) {
+            for (int r = 0; r < rounds[size]; r++) {
                 double a = time_of(ours_frame), b = time_of(by_lines_clang);
                 if (a < ours) ours = a;
                 if (b < theirs) theirs = b;
                 pairs[r] = b / a;
             }
-            qsort(pairs, sizes[size].rounds, sizeof *pairs, by_size);
-            printf("%.4f %.4f ", pairs[sizes[size].rounds / 2], theirs / ours);
+            qsort(pairs, rounds[size], sizeof *pairs, by_size);
+            printf("%.4f %.4f ", pairs[rounds[size] / 2], theirs / ours);
         }
     printf("\n");
 }
 
 static void time_marks(void) {
     printf("\n%-26s %9s %9s %9s\n", "marks", "ours us", "our frame", "per cell");
-    for (int i = 0; i < 4; i++) {
-        char name[64];
-        sprintf(name, "1024 x 312, depth %u", depths[i]);
-        usual(depths[i]);
-        row(name, (work *const[]){ours_marks, ours_frame, count_cells_gcc}, 3, 400);
-    }
+    rows(&sizes[0], same_marks, (work *const[]){ours_marks, ours_frame, count_cells_gcc}, 3);
+}
+
+static void time_summaries(void) {
+    work *const runs[4] = {ours_summaries, ours_frame, ours_marks, entry_cells_gcc};
+    printf("\n%-26s %9s %9s %9s %9s\n", "marks per raster", "ours us", "our frame", "our marks", "per cell");
+    for (int size = 0; size < 2; size++) rows(&sizes[size], same_summaries, runs, 4);
+}
+
+// A replacement is one raster's work: sizes of one width take the same time, whatever their height.
+static void time_replaced(void) {
+    work *const runs[3] = {ours_replace, ours_summaries, replace_cells_gcc};
+    printf("\n%-26s %9s %9s %9s\n", "one word replaced", "ours us", "all anew", "per cell");
+    for (int size = 0; size < 3; size++) rows(&sizes[size], same_replaced, runs, 3);
 }
 
 static void time_sound(void) {
@@ -273,6 +300,8 @@ int main(int count, char **words) {
     printf("best times in microseconds, and how many times as fast ours is as each other\n\n");
     time_frames();
     time_marks();
+    time_summaries();
+    time_replaced();
     time_sound();
     time_plates();
     time_queue();

@@ -6,12 +6,16 @@
 
 uint32_t values[64], noise[PLATE_WORDS], words_out[PLATE_WORDS];
 uint8_t written[64], file[PLATE], file_out[PLATE], bytes_out[4 * QUEUED];
-uint16_t cells[LARGEST];
+uint16_t cells[LARGEST], entries[ENTRIES];
 int16_t sound_out[SOUNDS * 8];
 uint32_t after;
 uint64_t marks, length, loaded;
 struct picture pic;
 static uint8_t stereo[8], text[LONGEST_TEXT];
+// The same picture over a list of its own, which is lent to be changed; and where a word is replaced in it, and by which.
+static struct picture kept;
+static uint32_t list[LARGEST / 4], new_word;
+static size_t place;
 
 #define GIVEN values, 64, written, 64
 #define LISTS pic.video, pic.video_words, pic.shape, pic.cursor_words
@@ -42,6 +46,16 @@ static void load(void) {
     if (vom_load(GIVEN, registers, register_count)) die("the registers were refused");
 }
 
+// The word is the first of a raster that the cursor crosses, the dearest kind.
+static void keep(void) {
+    uint32_t crossed = pic.vcs > pic.vds ? pic.vcs - pic.vds : 0;
+    memcpy(list, pic.video, sizeof *list * pic.video_words);
+    kept = pic;
+    kept.video = list;
+    place = crossed * (pic.de - pic.ds) * pic.depth / 32;
+    new_word = ~list[place];
+}
+
 // A geometry by its positions: N HS BS DS DE BE CX, then V VS VBS VDS VDE VBE VCS VCE.
 static void set(uint32_t depth, const uint32_t x[7], const uint32_t y[8]) {
     static const uint32_t offsets[4] = {19, 11, 7, 5};
@@ -66,6 +80,7 @@ static void set(uint32_t depth, const uint32_t x[7], const uint32_t y[8]) {
     for (uint32_t i = 0; i < 3; i++) pic.pens[i] = values[17 + i];
     pic.video = noise;
     pic.shape = noise + 1000;
+    keep();
 }
 
 void usual(uint32_t depth) {
@@ -74,6 +89,10 @@ void usual(uint32_t depth) {
 
 void largest(uint32_t depth) {
     set(depth, (uint32_t[]){2048, 4, 9, 25, 2041, 2047, 1000}, (uint32_t[]){1024, 1, 1, 2, 1023, 1024, 500, 532});
+}
+
+void low(uint32_t depth) {
+    set(depth, (uint32_t[]){1024, 72, 127, 201, 841, 941, 500}, (uint32_t[]){32, 3, 4, 5, 29, 30, 10, 20});
 }
 
 void smallest(uint32_t depth) {
@@ -109,6 +128,11 @@ void set_text(void) {
 void ours_frame(void) { if (vom_frame(GIVEN, LISTS, cells, LARGEST)) die("the frame was refused"); }
 void ours_raster(void) { if (vom_raster(GIVEN, LISTS, pic.v / 2, cells, LARGEST)) die("the raster was refused"); }
 void ours_marks(void) { if (vom_marks(GIVEN, LISTS, 128, &marks)) die("the marks were refused"); }
+void ours_summaries(void) { if (vom_summaries(GIVEN, LISTS, 128, entries, ENTRIES)) die("the summaries were refused"); }
+void ours_replace(void) {
+    if (vom_replace(GIVEN, list, kept.video_words, kept.shape, kept.cursor_words, 128, place, new_word, entries, ENTRIES))
+        die("the word was refused");
+}
 void ours_sound(void) {
     after = 5;
     if (vom_sound(GIVEN, noise, SOUNDS, &after, sound_out, SOUNDS * 8)) die("sound was refused");
@@ -151,6 +175,8 @@ void ours_queue(void) { through(vom_queue_fresh, vom_queue_ask, vom_queue_load, 
     void per_cell_##by(void) { cells_##by(&pic, cells); } \
     void tuned_##by(void) { stretches_##by(&pic, cells); } \
     void count_cells_##by(void) { marks = count_##by(&pic, 128); } \
+    void entry_cells_##by(void) { entries_##by(&pic, 128, entries); } \
+    void replace_cells_##by(void) { replace_##by(&kept, list, 128, place, new_word, entries); } \
     void loop_sound_##by(void) { after = sound_##by(stereo, noise, SOUNDS, 5, sound_out); } \
     void loop_copy_##by(void) { copy_##by(file, PLATE_WORDS, words_out); } \
     void loop_put_##by(void) { put_##by(noise, PLATE_WORDS, file_out); } \

@@ -6,6 +6,9 @@
  * are used. A pointer without a length (`count`, `colour`, `counter`, `size`, `words` of vom_sync_ask) is that of one
  * number, and may not be NULL. What a call writes may not overlap anything else that is handed to that call.
  *
+ * Lent to be changed, so that what stands there counts, are the record of vom_load and vom_load_word, `counter`, a
+ * queue, and `video` and `entries` of vom_replace. Every other pointer that is not const is lent for an answer.
+ *
  * Answers. Every call that answers uint64_t answers 0 for success, else number * 2^32 + detail of a row
  * of the table below: VOM_NUMBER and VOM_DETAIL take them apart. A refused call writes nothing. A call on a queue
  * answers a vom_reply instead, in which the number stands by itself, without a detail.
@@ -37,6 +40,7 @@ extern "C" {
 #define VOM_REGISTERS 64
 #define VOM_SETTING 21
 #define VOM_PLACES 9
+#define VOM_ENTRY 3
 
 /* The kinds of queues. Every number from VOM_SOUND up is sound. */
 #define VOM_VIDEO 0
@@ -64,6 +68,7 @@ extern "C" {
 #define VOM_REFUSED_TOO_LARGE 15 /* a plate to be written is over 4,194,304 bytes, or the printer's input over 65,536 */
 #define VOM_REFUSED_FULL 16 /* load into a full queue, or with its count at its largest */
 #define VOM_REFUSED_EMPTY 17 /* read from an empty queue */
+#define VOM_REFUSED_WORD_INDEX 18 /* a word index outside the list */
 
 /* One of the chip's queues. Its depth is 8 words for video, else 4. */
 typedef struct vom_queue {
@@ -124,6 +129,22 @@ uint64_t vom_raster_words(const uint32_t *values, size_t values_len, const uint8
 uint64_t vom_marks(const uint32_t *values, size_t values_len, const uint8_t *written, size_t written_len,
                    const uint32_t *video, size_t video_len, const uint32_t *cursor, size_t cursor_len,
                    uint8_t threshold, uint64_t *count);
+
+/* An entry for each displayed raster, from VDS to before VDE; none where the display is off. It is three numbers: how
+ * many of the raster's display cells (code 5) have a grey that reaches the threshold, and the least and the greatest
+ * grey of its display cells; 0, 255 and 0 where it has none. Refusals: 13 (record), 3 to 9, 11, 13 (`entries` shorter
+ * than three numbers for each displayed raster). Writes those numbers to `entries`, entry after entry. */
+uint64_t vom_summaries(const uint32_t *values, size_t values_len, const uint8_t *written, size_t written_len,
+                       const uint32_t *video, size_t video_len, const uint32_t *cursor, size_t cursor_len,
+                       uint8_t threshold, uint16_t *entries, size_t entries_len);
+
+/* Replaces one word of `video` and keeps `entries` right, at the cost of one raster. Refusals: 13 (record), 3 to 9, 11,
+ * 18 (`index` is not below video_len), 13 (`entries` as for vom_summaries). Writes the word to `video` at `index`, and
+ * to `entries` the entry of the raster that the word belongs to, as vom_summaries makes it of the changed list; every
+ * other word and number stays as it was, right or not. */
+uint64_t vom_replace(const uint32_t *values, size_t values_len, const uint8_t *written, size_t written_len,
+                     uint32_t *video, size_t video_len, const uint32_t *cursor, size_t cursor_len, uint8_t threshold,
+                     size_t index, uint32_t word, uint16_t *entries, size_t entries_len);
 
 /* The 13-bit colour that a logical pixel shows: by the palette entry pixel % 16, and at depth 8 by the pixel's high
  * bits too; at any other depth the entry itself. Refusal: 13 (record). Writes one colour to `colour`. */

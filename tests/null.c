@@ -6,6 +6,7 @@
 #define NONE NULL, 0
 #define SHORT ((uint64_t)13 << 32)
 #define FILE_WRONG ((uint64_t)14 << 32)
+#define INDEX_OUTSIDE ((uint64_t)18 << 32)
 #define GIVEN values, VOM_REGISTERS, written, VOM_REGISTERS
 
 static int asked, wrong;
@@ -34,7 +35,7 @@ static void load_small(void) {
 
 static void no_record(void) {
     uint32_t setting[VOM_SETTING], counter = 7, words = 7;
-    uint16_t cells[192], colour = 7;
+    uint16_t cells[192], colour = 7, entry[VOM_ENTRY];
     uint64_t place[2], count = 7;
     int16_t out[8];
     is("vom_load, no values", vom_load(NONE, written, VOM_REGISTERS, video, 0) == SHORT);
@@ -46,6 +47,8 @@ static void no_record(void) {
     is("vom_raster, no record", vom_raster(NONE, NONE, video, 1, NONE, 0, cells, 192) == SHORT);
     is("vom_raster_words, no record", vom_raster_words(NONE, NONE, video, 1, 0, place, 2) == SHORT);
     is("vom_marks, no record", vom_marks(NONE, NONE, video, 1, NONE, 0, &count) == SHORT && count == 7);
+    is("vom_summaries, no record", vom_summaries(NONE, NONE, video, 1, NONE, 0, entry, VOM_ENTRY) == SHORT);
+    is("vom_replace, no record", vom_replace(NONE, NONE, video, 1, NONE, 0, 0, 7, entry, VOM_ENTRY) == SHORT && video[0] == 0x76543210);
     is("vom_colour, no record", vom_colour(NONE, NONE, 8, 1, &colour) == SHORT && colour == 7);
     is("vom_sound, no record", vom_sound(NONE, NONE, NONE, &counter, out, 8) == SHORT && counter == 7);
     is("vom_sync_ask, no record", vom_sync_ask(NONE, NONE, VOM_VIDEO, 3, &words) == SHORT && words == 7);
@@ -53,19 +56,23 @@ static void no_record(void) {
 
 static void no_lists(void) {
     uint32_t before[VOM_REGISTERS], counter = 4294967295u;
-    uint16_t cells[192];
+    uint16_t cells[192], entry[VOM_ENTRY] = {7, 7, 7};
     uint64_t place[2], count = 7;
     memcpy(before, values, sizeof before);
     is("vom_load, no words", vom_load(GIVEN, NONE) == 0 && !memcmp(before, values, sizeof before));
     is("vom_frame, no cursor", vom_frame(GIVEN, video, 1, NONE, cells, 192) == 0 && cells[3 * 32 + 18] == 40967);
     is("vom_raster, no cursor", vom_raster(GIVEN, video, 1, NONE, 3, cells, 192) == 0 && cells[11] == 40960);
     is("vom_marks, no cursor", vom_marks(GIVEN, video, 1, NONE, 0, &count) == 0 && count == 8);
+    is("vom_summaries, no cursor", vom_summaries(GIVEN, video, 1, NONE, 39, entry, VOM_ENTRY) == 0 && entry[0] == 1);
+    is("vom_replace, no cursor", vom_replace(GIVEN, video, 1, NONE, 0, 0, 0x76543210, entry, VOM_ENTRY) == 0 && entry[0] == 8);
     is("vom_sound, no words", vom_sound(GIVEN, NONE, &counter, NONE) == 0 && counter == 4294967295u);
     is("the display off", vom_load_word(GIVEN, 0xB0000000 | 2 << 14) == 0);
     is("vom_frame, no video", vom_frame(GIVEN, NONE, NONE, cells, 192) == 0 && cells[3 * 32 + 11] == 36608);
     is("vom_raster, no video", vom_raster(GIVEN, NONE, NONE, 3, cells, 192) == 0 && cells[11] == 36608);
     is("vom_raster_words, no video", vom_raster_words(GIVEN, NONE, 3, place, 2) == 0 && !place[0] && !place[1]);
     is("vom_marks, no video", vom_marks(GIVEN, NONE, NONE, 0, &count) == 0 && count == 0);
+    is("vom_summaries, no video", vom_summaries(GIVEN, NONE, NONE, 0, NONE) == 0);
+    is("vom_replace, no video", vom_replace(GIVEN, NONE, NONE, 0, 0, 7, NONE) == INDEX_OUTSIDE);
 }
 
 static void no_answers(void) {
@@ -76,6 +83,9 @@ static void no_answers(void) {
     is("vom_raster_words, no place", vom_raster_words(GIVEN, NONE, 3, NONE) == SHORT);
     is("vom_sound, no out", vom_sound(GIVEN, &word, 1, &counter, NONE) == SHORT && counter == 7);
     is("vom_sound_pair, no pair", vom_sound_pair(0x20, 3, NONE) == SHORT);
+    is("the display on again", vom_load_word(GIVEN, 0xB0000000 | 3 << 14) == 0);
+    is("vom_summaries, no entries", vom_summaries(GIVEN, video, 1, NONE, 0, NONE) == SHORT);
+    is("vom_replace, no entries", vom_replace(GIVEN, video, 1, NONE, 0, 0, 7, NONE) == SHORT && video[0] == 0x76543210);
 }
 
 static void no_files(void) {

@@ -100,6 +100,24 @@ extern "C" {
         threshold: u8,
         count: *mut u64,
     ) -> u64;
+    pub fn vom_summaries(
+        values: *const u32, values_len: usize,
+        written: *const u8, written_len: usize,
+        video: *const u32, video_len: usize,
+        cursor: *const u32, cursor_len: usize,
+        threshold: u8,
+        entries: *mut u16, entries_len: usize,
+    ) -> u64;
+    pub fn vom_replace(
+        values: *const u32, values_len: usize,
+        written: *const u8, written_len: usize,
+        video: *mut u32, video_len: usize,
+        cursor: *const u32, cursor_len: usize,
+        threshold: u8,
+        index: usize,
+        word: u32,
+        entries: *mut u16, entries_len: usize,
+    ) -> u64;
     pub fn vom_colour(
         values: *const u32, values_len: usize,
         written: *const u8, written_len: usize,

@@ -2,6 +2,7 @@
 #![deny(missing_docs)]
 
 pub mod calls;
+mod entries;
 pub mod plate;
 mod queue;
 mod record;
@@ -10,6 +11,7 @@ mod setting;
 mod single;
 
 pub use calls::Queue;
+pub use entries::Entry;
 pub use queue::Reply;
 pub use record::Record;
 pub use refusal::Refusal;

@@ -13,7 +13,7 @@ pub struct Refusal {
 }
 
 /// The table's rows: number, and when it is given.
-const RULES: [(u32, &str); 17] = [
+const RULES: [(u32, &str); 18] = [
     (1, "more than 1,024 register words"),
     (2, "a reserved address"),
     (3, "a needed register is unwritten"),
@@ -31,6 +31,7 @@ const RULES: [(u32, &str); 17] = [
     (15, "a plate to be written is over 4,194,304 bytes, or the printer's input over 65,536"),
     (16, "load into a full queue, or with its count at its largest"),
     (17, "read from an empty queue"),
+    (18, "a word index outside the list"),
 ];
 
 impl Refusal {

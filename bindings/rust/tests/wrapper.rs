@@ -1,7 +1,8 @@
-//! The wrapper as a user meets it: the small plate from file to cells, memory that is too short, queues, what refusals say.
+//! The wrapper as a user meets it: the small plate from file to cells, memory that is too short, entries kept beside a list,
+//! queues, what refusals say.
 
 use vombelishi::plate::{self, Places};
-use vombelishi::{sound_pair_into, Queue, Record, Refusal, Reply};
+use vombelishi::{sound_pair_into, Entry, Queue, Record, Refusal, Reply};
 
 const SMALL: &[u8] = include_bytes!("../../../samples/small.plate");
 const SHORT: Result<(), Refusal> = Err(Refusal { number: 13, detail: 0 });
@@ -112,6 +113,80 @@ fn short_memory() {
     short(112, |text| plate::text(SMALL, text).map(|_| ()));
 }
 
+/// The small plate with a second displayed raster, and two video words.
+fn two_rasters() -> (Record, [u32; 2]) {
+    let (places, words) = small();
+    let mut record = loaded(places.sections(&words)[0]);
+    record.load_word(0xB001_0000).unwrap(); // VDE 5
+    (record, [0x7654_3210, 0x8888_8888])
+}
+
+#[test]
+fn the_entry_of_a_words_raster_changes_alone() {
+    let (record, mut video) = two_rasters();
+    let first = Entry { marks: 3, least: 0, greatest: 39 };
+    let mut entries = record.summaries(&video, &[], 28).unwrap();
+    assert_eq!(entries, [first, Entry { marks: 8, least: 45, greatest: 45 }]);
+    assert_eq!(record.replace(&mut video, &[], 28, 1, 0xF000_0000, &mut entries), Ok(()));
+    assert_eq!(video, [0x7654_3210, 0xF000_0000]);
+    assert_eq!(entries, [first, Entry { marks: 1, least: 0, greatest: 85 }]);
+    assert_eq!(record.summaries(&video, &[], 28), Ok(entries));
+}
+
+#[test]
+fn entries_that_are_not_right_stay() {
+    let (record, mut video) = two_rasters();
+    let garbage = Entry { marks: 7, least: 8, greatest: 9 };
+    let mut entries = [garbage; 3];
+    assert_eq!(record.replace(&mut video, &[], 0, 0, 0x1111_1111, &mut entries), Ok(()));
+    assert_eq!(entries, [Entry { marks: 8, least: 5, greatest: 5 }, garbage, garbage]);
+    assert_eq!(record.summaries_into(&video, &[], 255, &mut entries), Ok(()));
+    let none = |grey| Entry { marks: 0, least: grey, greatest: grey };
+    assert_eq!(entries, [none(5), none(45), garbage]);
+}
+
+/// A replacement that is refused, and that list and entries stay.
+fn refused(record: &Record, video: &[u32], cursor: &[u32], index: usize, entries: usize) -> u32 {
+    let (mut list, mut lent) = (video.to_vec(), vec![Entry::EMPTY; entries]);
+    let told = record.replace(&mut list, cursor, 0, index, 99, &mut lent).unwrap_err();
+    assert_eq!((list.as_slice(), lent, told.detail), (video, vec![Entry::EMPTY; entries], 0));
+    told.number
+}
+
+#[test]
+fn a_refused_replacement_changes_nothing() {
+    let (record, video) = two_rasters();
+    assert_eq!(refused(&record, &video[1..], &[], 9, 0), 11);
+    assert_eq!(refused(&record, &video, &[0], 9, 0), 11);
+    for index in [2, 1 << 32, 1 << 62, usize::MAX] {
+        assert_eq!(refused(&record, &video, &[], index, 0), 18);
+    }
+    for entries in [0, 1] {
+        assert_eq!(refused(&record, &video, &[], 1, entries), 13);
+        assert_eq!(record.summaries_into(&video, &[], 0, &mut vec![Entry::EMPTY; entries]), SHORT);
+    }
+}
+
+#[test]
+fn no_entry_with_the_display_off() {
+    let (mut record, _) = two_rasters();
+    record.load_word(0xB000_8000).unwrap(); // VDE 3, which is VDS
+    assert_eq!(record.summaries(&[], &[], 0), Ok(vec![]));
+    assert_eq!(refused(&record, &[], &[], 0, 3), 18);
+    assert_eq!(Record::new().summaries(&[], &[], 0), Err(Refusal { number: 3, detail: 0xE0 }));
+}
+
+#[test]
+fn a_raster_that_the_cursor_covers() {
+    let (mut record, video) = two_rasters();
+    let cursor = [0x4400_0FFF, 0x4800_0FFF, 0x4C00_0FFF, 0x9800_0000, 0xB800_8000, 0xBC00_C000]; // at 6, raster 3
+    record.load(&cursor).unwrap();
+    let second = Entry { marks: 8, least: 45, greatest: 45 };
+    assert_eq!(record.summaries(&video, &[u32::MAX; 2], 0), Ok(vec![Entry::EMPTY, second]));
+    let first = Entry { marks: 7, least: 5, greatest: 39 };
+    assert_eq!(record.summaries(&video, &[1 << 10, 0], 0), Ok(vec![first, second]));
+}
+
 const FULL: Refusal = Refusal { number: 16, detail: 0 };
 const EMPTY: Refusal = Refusal { number: 17, detail: 0 };
 
@@ -190,5 +265,6 @@ fn a_refusal_says_number_detail_and_rule() {
     );
     assert_eq!(says(10, 0), "refused 10 0: a stereo value is 0, or the sound frequency is below 3");
     assert_eq!(says(17, 0), "refused 17 0: read from an empty queue");
-    assert_eq!(says(18, 0), "refused 18 0: not in the table");
+    assert_eq!(says(18, 0), "refused 18 0: a word index outside the list");
+    assert_eq!(says(19, 0), "refused 19 0: not in the table");
 }

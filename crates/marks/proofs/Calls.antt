@@ -1,7 +1,7 @@
 -- The two calls per raster from the judged picture on: refused with it, refused by a row of their own, or put. The picture's table with the rows
 -- behind it is the call's own, and where the call is refused lent memory is as it was.
 use Prim.Native.Nat.{ℕ, _+_, _*_, _≤_, _<_}
-use mathlib.Core.Path.{_≡_, refl, sym, _∙_}
+use mathlib.Core.Path.{_≡_, sym, _∙_}
 use mathlib.Core.List.{List, [], _∷_}
 use borrow.Author.Tests.{lt-ltb, le-ltb, lt-leb, le-leb}
 use lib.Dec.{ltb, leb}

@@ -1,14 +1,14 @@
 -- The entry of a displayed raster by its cells and by its pixels: a code 5 cell shows the grey of its pixel, and a raster shows the pixels of
 -- its display positions that are not covered.
-use Prim.Native.Nat.{ℕ, zero, suc, _+_, _-_, _/_, _%_, _^_, _<_, _≤_}
+use Prim.Native.Nat.{ℕ, zero, suc, _+_, _-_, _/_, _^_, _<_, _≤_}
 use mathlib.Core.Bool.{Bool, true, false, not, _&&_, and-false}
 use mathlib.Core.List.{List}
-use mathlib.Core.Logic.{_⊎_, inl, inr}
+use mathlib.Core.Logic.{inl, inr}
 use mathlib.Core.Path.{_≡_, refl, sym, _∙_, ap}
 use native.Mathlib.Nat.{zero-add}
 use native.Mathlib.Omega.{arith}
 use borrow.Author.Tests.{eqb-true, eq-eqb, lt-ltb, le-ltb, not-true}
-use lib.Dec.{ltb, leb, eqb}
+use lib.Dec.{leb, eqb}
 use lib.ListN.{getD}
 use Rattle.buffers.specs.Pick.{pick}
 use Rattle.buffers.proofs.Split.{true-or-false, is-false, lt-or-le}
@@ -17,8 +17,7 @@ use Rattle.registers.specs.declared.record.Registers.{Registers}
 use Rattle.registers.specs.declared.setting.Setting.{Setting}
 use Rattle.registers.specs.inner.Accepted.{Accepted}
 use Rattle.cells.specs.Pixel.{logical, position}
-use Rattle.cells.specs.Cell.{inDisplay, plainCode, covered, code, cell}
-use Rattle.cells.specs.inner.Region.{InDisplay}
+use Rattle.cells.specs.Cell.{inDisplay, covered, code, cell}
 use Rattle.cells.proofs.PixelPlaces.{pixel-below}
 use Rattle.cells.proofs.Regions.{cell-code, cell-colour, code-five, plain-five, display-inside, inside-display}
 use Rattle.marks.specs.Count.{total, bit}
@@ -29,8 +28,8 @@ use Rattle.marks.specs.inner.Bright.{Tabled, bright}
 use Rattle.marks.specs.inner.Seen.{only}
 use Rattle.marks.specs.inner.Shown.{greyAt, shownAt, shownTotal, seenFrom, seenGrey, entryBy}
 use Rattle.marks.proofs.Flags.{only-at}
-use Rattle.marks.proofs.Least.{Among, AllAmong, least-same, greatest-same, pixels-most}
-use Rattle.marks.proofs.Totals.{total-as, total-none, total-window}
+use Rattle.marks.proofs.Least.{AllAmong, least-same, greatest-same, pixels-most}
+use Rattle.marks.proofs.Totals.{total-as, total-window}
 
 -- Some term of a sum that is not 0 is not 0; and a term that is not 0 makes a sum that is not.
 pub record Term (f : ℕ → ℕ) (n : ℕ) : Type 0 where

@@ -3,7 +3,7 @@ use crate::entry::Entry;
 use crate::rasters::by_words;
 use registers::setting::Setting;
 ghost use mathlib.Core.Path.{_≡_};
-ghost use Prim.Native.Nat.{_+_, _*_, _-_, _%_, _≤_};
+ghost use Prim.Native.Nat.{_+_, _*_, _%_, _≤_};
 ghost use lib.ListN.{length};
 ghost use Rattle.buffers.specs.Painted.{painted};
 ghost use Rattle.cells.specs.inner.Known.{Picture};

@@ -1,7 +1,6 @@
 // For each byte the pixels that it holds, a bit for each: at depths 1, 2 and 4 there are at most sixteen.
 use crate::pixels::low_bits;
-ghost use mathlib.Core.Path.{_≡_};
-ghost use Prim.Native.Nat.{_≤_, _<_};
+ghost use Prim.Native.Nat.{_≤_};
 ghost use Rattle.registers.specs.inner.Accepted.{Depth};
 ghost use Rattle.marks.specs.inner.Bright.{byteBright};
 ghost use Rattle.marks.specs.inner.Seen.{only, Masked, Masks};

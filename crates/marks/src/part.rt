@@ -2,7 +2,6 @@
 use registers::setting::Setting;
 use registers::units::Pixels;
 use registers::units::Rasters;
-ghost use mathlib.Core.Path.{_≡_};
 ghost use Rattle.registers.specs.inner.Accepted.{Accepted};
 ghost use Rattle.marks.specs.inner.Shown.{CursorPart};
 

@@ -47,7 +47,7 @@ fn see(
     y: Rasters,
     flags: &mut [u8; 256],
 ) -> u32
-    requires { ⌜ Accepted s × InDisplay s (x .0) (y .0) × (length (now video) ≡ videoWords s) ⌝ }
+    requires { ⌜ Accepted s × InDisplay s (x .0) (y .0) × (length (now video) ≡ videoWords s) × (length (now flags) ≡ 256) ⌝ }
     ensures { λ r. ⌜ (r ≡ getD (now (pixels .entry)) (logical s (now (video .entry)) (x .0) (y .0)) 0)
         × Flagged (now (flags .entry)) (now (flags .exit)) (λ q. getD (only q) (logical s (now (video .entry)) (x .0) (y .0)) 0) ⌝ }
 {
@@ -68,7 +68,7 @@ fn shown_one(
     flags: &mut [u8; 256],
 ) -> u32
     requires { ⌜ Picture s (now video) (now cursor) × (s .vds .0 ≤ y .0) × (y .0 < s .vde .0) × (p < s .de .0 - s .ds .0)
-        × AtMost (now pixels) 1 ⌝ }
+        × AtMost (now pixels) 1 × (length (now flags) ≡ 256) ⌝ }
     ensures { λ r. ⌜ (r ≡ shownAt s (now (video .entry)) (now (cursor .entry)) (now (pixels .entry)) (y .0) p) × (r ≤ 1)
         × Flagged (now (flags .entry)) (now (flags .exit)) (seenAt s (now (video .entry)) (now (cursor .entry)) (y .0) p) ⌝ }
 {
@@ -91,7 +91,7 @@ pub fn shown_in(
     flags: &mut [u8; 256],
 ) -> u32
     requires { ⌜ Picture s (now video) (now cursor) × (s .vds .0 ≤ y .0) × (y .0 < s .vde .0) × (from ≤ to)
-        × (to ≤ s .de .0 - s .ds .0) × AtMost (now pixels) 1 ⌝ }
+        × (to ≤ s .de .0 - s .ds .0) × AtMost (now pixels) 1 × (length (now flags) ≡ 256) ⌝ }
     ensures { λ r. ⌜ (r ≡ shownTotal s (now (video .entry)) (now (cursor .entry)) (now (pixels .entry)) (y .0) from (to - from))
         × (r ≤ 2048)
         × Flagged (now (flags .entry)) (now (flags .exit)) (seenFrom s (now (video .entry)) (now (cursor .entry)) (y .0) from (to - from)) ⌝ }

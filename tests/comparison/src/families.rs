@@ -3,7 +3,7 @@
 use crate::bench::Bench;
 use crate::random::Random;
 use crate::{files, large, pictures, queues, raw_files, raw_pictures, raw_queues, raw_records};
-use crate::{registers, sounds, syncs, texts};
+use crate::{raw_summaries, registers, sounds, summaries, syncs, texts};
 
 pub struct Family {
     pub name: &'static str,
@@ -15,13 +15,16 @@ pub struct Family {
 const ONCE: u64 = u64::MAX;
 
 #[rustfmt::skip]
-pub const FAMILIES: [Family; 28] = [
+pub const FAMILIES: [Family; 33] = [
     Family { name: "load", every: 1, round: registers::load_round },
     Family { name: "check", every: 1, round: registers::check_round },
     Family { name: "check_sound", every: 1, round: registers::check_sound_round },
     Family { name: "frame", every: 1, round: pictures::frame_round },
     Family { name: "raster", every: 1, round: pictures::raster_round },
     Family { name: "marks", every: 1, round: pictures::marks_round },
+    Family { name: "summaries", every: 1, round: summaries::summaries_round },
+    Family { name: "replace", every: 1, round: summaries::replace_round },
+    Family { name: "kept", every: 10, round: summaries::kept_round },
     Family { name: "colour", every: 50, round: pictures::colour_round },
     Family { name: "grey", every: ONCE, round: pictures::every_grey },
     Family { name: "pin", every: ONCE, round: pictures::every_pin },
@@ -40,6 +43,8 @@ pub const FAMILIES: [Family; 28] = [
     Family { name: "raw_record", every: 1, round: raw_records::raw_record_round },
     Family { name: "raw_sound", every: 1, round: raw_records::raw_sound_round },
     Family { name: "raw_picture", every: 1, round: raw_pictures::raw_picture_round },
+    Family { name: "raw_summaries", every: 1, round: raw_summaries::raw_summaries_round },
+    Family { name: "raw_kept", every: 10, round: raw_summaries::raw_kept_round },
     Family { name: "raw_file", every: 1, round: raw_files::raw_file_round },
     Family { name: "raw_text", every: 8, round: raw_files::raw_text_round },
     Family { name: "raw_long_write", every: 1000, round: raw_files::raw_long_write_round },

@@ -8,6 +8,7 @@ use crate::random::Random;
 use crate::show;
 use second::record::Record;
 use second::refusal::{refusal, Refusal, SHORT};
+use std::fmt::LowerHex;
 
 /// A slice's name, a kind of length or of content, and whether this slice is of that kind.
 pub type Shape = (&'static str, &'static str, bool);
@@ -43,14 +44,9 @@ impl<T: Pattern> Slice<T> {
         Slice { name, lent, needed, null, written: Vec::new() }
     }
 
-    /// Memory for an answer of so many elements: exact, longer, one short or none.
+    /// Memory for an answer of so many elements.
     pub fn answer(random: &mut Random, name: &'static str, needed: usize) -> Slice<T> {
-        let length = match random.between(0, 9) {
-            0..=3 => needed,
-            4..=6 => needed + random.between(1, 20) as usize,
-            7 | 8 => needed.saturating_sub(1),
-            _ => 0,
-        };
+        let length = answer_length(random, needed);
         let lent = Lent::new(random, length);
         Slice::new(random, name, lent, Needed::Exactly(needed))
     }
@@ -88,7 +84,17 @@ impl<T: Pattern> Slice<T> {
     }
 }
 
-impl<T: Pattern> Handed for Slice<T> {
+/// How much is handed over where so much is needed: exact, longer, one short or none.
+pub fn answer_length(random: &mut Random, needed: usize) -> usize {
+    match random.between(0, 9) {
+        0..=3 => needed,
+        4..=6 => needed + random.between(1, 20) as usize,
+        7 | 8 => needed.saturating_sub(1),
+        _ => 0,
+    }
+}
+
+impl<T: Pattern + LowerHex> Handed for Slice<T> {
     fn shapes(&self) -> Vec<Shape> {
         let null = (self.name, "NULL", self.null);
         match self.needed {

@@ -2,11 +2,12 @@
 //! it is compared afterwards.
 
 use crate::random::Random;
-use std::fmt::{Debug, LowerHex};
+use std::fmt::Debug;
+use vombelishi::Entry;
 
 const GUARD: usize = 16;
 
-pub trait Pattern: Copy + PartialEq + Debug + LowerHex {
+pub trait Pattern: Copy + PartialEq + Debug {
     fn cut(number: u64) -> Self;
 }
 
@@ -21,6 +22,13 @@ macro_rules! pattern {
 }
 
 pattern!(u8, u16, i16, u32, u64);
+
+impl Pattern for Entry {
+    fn cut(number: u64) -> Entry {
+        let [marks, least, greatest] = [0, 8, 16].map(|bits| (number >> bits) as u16);
+        Entry { marks, least, greatest }
+    }
+}
 
 pub struct Lent<T> {
     before: Vec<T>,

@@ -9,6 +9,7 @@ mod handed;
 mod judged;
 mod large;
 mod lent;
+mod make_kept;
 mod make_plate;
 mod make_queue;
 mod make_record;
@@ -22,9 +23,11 @@ mod raw_files;
 mod raw_pictures;
 mod raw_queues;
 mod raw_records;
+mod raw_summaries;
 mod registers;
 mod show;
 mod sounds;
+mod summaries;
 mod syncs;
 mod tables;
 mod texts;
@@ -36,7 +39,7 @@ use std::iter::Peekable;
 use std::time::{Duration, Instant};
 
 const USAGE: &str = "compare [--seed N] [--rounds N] [--only FAMILY [--round R]] [--trace] \
-    [--printer PROGRAM WORD ..] [--live PROGRAM WORD ..]";
+    [--printer PROGRAM WORD ..] [--live PROGRAM WORD ..] [--tally PROGRAM WORD ..]";
 
 struct Wishes {
     seed: u64,

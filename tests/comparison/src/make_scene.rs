@@ -4,9 +4,11 @@ use crate::damage::{damage, nudge};
 use crate::make_record::{right, Size};
 use crate::random::Random;
 use crate::show;
+use second::grey::grey;
 use second::record::Record;
 use second::setting;
 
+#[derive(Clone)]
 pub struct Scene {
     pub record: Record,
     pub video: Vec<u32>,
@@ -61,6 +63,11 @@ fn spoil_counts(random: &mut Random, scene: &mut Scene) {
 }
 
 impl Scene {
+    /// The grey of a palette entry.
+    pub fn level(&self, random: &mut Random) -> u8 {
+        grey(self.record.values[random.between(0, 15) as usize] as u16)
+    }
+
     pub fn show(&self) -> String {
         format!(
             "record {}\nvideo {}\ncursor {}",

@@ -6,7 +6,9 @@ use second::queue_calls::Reply;
 use second::record::Record;
 use second::refusal::Refusal;
 use second::setting::Setting;
+use second::summaries::ENTRY;
 use vombelishi::plate::Places;
+use vombelishi::Entry;
 
 pub fn record(record: &Record) -> vombelishi::Record {
     vombelishi::Record { values: record.values, written: record.written.map(u8::from) }
@@ -35,6 +37,17 @@ pub fn setting(setting: Setting) -> vombelishi::Setting {
 pub fn queue(queue: &Queue) -> vombelishi::Queue {
     let Queue { words, kind, taken, place, held, coming, count } = *queue;
     vombelishi::Queue { words, kind, taken, place, held, coming, count }
+}
+
+/// Three numbers to an entry.
+pub fn entries(numbers: &[u16]) -> Vec<Entry> {
+    let entry = |n: &[u16]| Entry { marks: n[0], least: n[1], greatest: n[2] };
+    numbers.chunks_exact(ENTRY).map(entry).collect()
+}
+
+/// The numbers of entries that are already there.
+pub fn numbers(entries: &[Entry]) -> Vec<u16> {
+    entries.iter().flat_map(|entry| [entry.marks, entry.least, entry.greatest]).collect()
 }
 
 /// A reply, with what the call itself says.

@@ -117,8 +117,7 @@ pub fn marks_round(bench: &mut Bench, random: &mut Random) {
     for threshold in [0, 1, 127, 128, 254, 255] {
         compare_marks(bench, &scene, threshold);
     }
-    let entry = scene.record.values[random.between(0, 15) as usize];
-    let level = grey::grey(entry as u16);
+    let level = scene.level(random);
     compare_marks(bench, &scene, level);
     compare_marks(bench, &scene, level.saturating_add(1));
 }

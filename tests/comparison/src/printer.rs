@@ -7,7 +7,8 @@ use crate::make_record::{MIDDLING, SMALL, TALL, WIDE};
 use crate::random::Random;
 use crate::show;
 use second::live::live;
-use second::text::{picture, text};
+use second::rasters::rasters;
+use second::text::{picture, text, THRESHOLD};
 use std::io::{self, Write};
 use std::process::{Child, Command, Stdio};
 use std::thread;
@@ -16,21 +17,38 @@ pub const PLATES: u64 = 600;
 
 pub struct Printer {
     pub name: &'static str,
-    /// What it should print for a plate.
-    text: fn(&[u8]) -> String,
+    /// The words that it is given besides a plate, and what it should print then.
+    asked: fn(&mut Random, &[u8]) -> (Vec<String>, String),
 }
 
-pub const PRINTERS: [Printer; 2] = [Printer { name: "printer", text }, Printer { name: "live", text: live }];
+pub const PRINTERS: [Printer; 3] = [
+    Printer { name: "printer", asked: |_, plate| (Vec::new(), text(plate)) },
+    Printer { name: "live", asked: |_, plate| (Vec::new(), live(plate)) },
+    Printer { name: "tally", asked: tally },
+];
+
+/// A threshold, with zeros before it now and then, or none.
+fn tally(random: &mut Random, plate: &[u8]) -> (Vec<String>, String) {
+    let any = random.word() as u8;
+    let threshold = random.pick(&[0, 1, 127, 128, 255, any, any, any]);
+    match random.between(0, 4) {
+        0 => (Vec::new(), rasters(plate, THRESHOLD)),
+        1 => (vec![format!("{threshold:03}")], rasters(plate, threshold)),
+        _ => (vec![threshold.to_string()], rasters(plate, threshold)),
+    }
+}
 
 /// The same plate in each round for each of them, and the same refusals.
 pub fn compare_printer(bench: &mut Bench, printer: &Printer, command: &[String], round: u64) {
     bench.begin(printer.name, round);
     let mut random = Random::new(bench.seed, "printer", round);
     let file = plate(&mut random);
-    let printed = run(command, &file).unwrap_or_else(|error| format!("could not be run: {error}"));
+    let (words, text) = (printer.asked)(&mut random, &file);
+    let command = [command, words.as_slice()].concat();
+    let printed = run(&command, &file).unwrap_or_else(|error| format!("could not be run: {error}"));
     let mut judged = Judged { refused: picture(&file).err(), ..Judged::default() };
-    judged.same("text", &(printer.text)(&file), &printed);
-    bench.count(printer.name, judged, || format!("file {}", show::list(&file)));
+    judged.same("text", &text, &printed);
+    bench.count(printer.name, judged, || format!("file {}\nwords {words:?}", show::list(&file)));
 }
 
 fn plate(random: &mut Random) -> Vec<u8> {

@@ -22,15 +22,15 @@ pub fn raw_picture_round(bench: &mut Bench, random: &mut Random) {
 }
 
 /// A scene as it is handed over, and the setting that its record gives.
-struct Handover {
-    given: Given,
-    video: Slice<u32>,
-    cursor: Slice<u32>,
+pub struct Handover {
+    pub given: Given,
+    pub video: Slice<u32>,
+    pub cursor: Slice<u32>,
     setting: Option<Setting>,
 }
 
 impl Handover {
-    fn new(random: &mut Random, scene: &Scene) -> Handover {
+    pub fn new(random: &mut Random, scene: &Scene) -> Handover {
         let setting = setting::check(&scene.record).ok();
         let video_words = setting.as_ref().map(|s| s.video_words() as usize);
         let cursor_words = setting.as_ref().map(|s| s.cursor_words() as usize);

@@ -5,7 +5,7 @@ use crate::bench::{Bench, Row};
 
 /// The refusals that each call can give, from the paper's orders. The C calls themselves, from `vom_load` on, are also
 /// given records, and memory for every answer, that are too short.
-const CAN_REFUSE: [(&str, &[usize]); 32] = [
+const CAN_REFUSE: [(&str, &[usize]); 36] = [
     ("load", &[1, 2]),
     ("load_word", &[2]),
     ("check", &[3, 4, 5, 6, 7, 8, 9]),
@@ -14,6 +14,8 @@ const CAN_REFUSE: [(&str, &[usize]); 32] = [
     ("raster", &[3, 4, 5, 6, 7, 8, 9, 11, 12, 13]),
     ("raster_words", &[3, 4, 5, 6, 7, 8, 9, 11, 12]),
     ("marks", &[3, 4, 5, 6, 7, 8, 9, 11]),
+    ("summaries", &[3, 4, 5, 6, 7, 8, 9, 11, 13]),
+    ("replace", &[3, 4, 5, 6, 7, 8, 9, 11, 13, 18]),
     ("sound", &[3, 10, 13]),
     ("copy", &[13, 14]),
     ("write", &[13, 15]),
@@ -28,6 +30,8 @@ const CAN_REFUSE: [(&str, &[usize]); 32] = [
     ("vom_raster", &[3, 4, 5, 6, 7, 8, 9, 11, 12, 13]),
     ("vom_raster_words", &[3, 4, 5, 6, 7, 8, 9, 11, 12, 13]),
     ("vom_marks", &[3, 4, 5, 6, 7, 8, 9, 11, 13]),
+    ("vom_summaries", &[3, 4, 5, 6, 7, 8, 9, 11, 13]),
+    ("vom_replace", &[3, 4, 5, 6, 7, 8, 9, 11, 13, 18]),
     ("vom_colour", &[13]),
     ("vom_sound", &[3, 10, 13]),
     ("vom_sound_pair", &[10, 13]),
@@ -58,7 +62,7 @@ const ALWAYS_ANSWERED: [&str; 13] = [
 
 pub fn print(bench: &Bench) {
     println!("inputs compared, by call: accepted, then refused by number");
-    println!("{:<24}{:>9}{}", "call", "accepted", (1..18).map(|n| format!("{n:>7}")).collect::<String>());
+    println!("{:<24}{:>9}{}", "call", "accepted", (1..19).map(|n| format!("{n:>7}")).collect::<String>());
     for (call, row) in &bench.calls {
         print_row(call, row);
     }
@@ -121,7 +125,7 @@ pub fn never_met(bench: &Bench) -> Vec<String> {
     }
     missing.extend(details_never_met(bench));
     let all = totals(bench);
-    missing.extend((1..18).filter(|&n| all[n] == 0).map(|n| format!("refusal {n}")));
+    missing.extend((1..19).filter(|&n| all[n] == 0).map(|n| format!("refusal {n}")));
     missing.extend(bench.sights.iter().filter(|(_, n)| **n == 0).map(|(s, _)| s.to_string()));
     for ((call, slice), shapes) in &bench.shapes {
         missing.extend(

@@ -17,6 +17,11 @@ fn within(from: u32, at: u32, to: u32) -> bool {
 }
 
 impl Picture<'_> {
+    /// The N cells of raster y.
+    pub fn raster(&self, y: u32) -> Vec<u16> {
+        (0..self.setting.n).map(|x| self.cell(x, y)).collect()
+    }
+
     pub fn cell(&self, x: u32, y: u32) -> u16 {
         let under = self.code_under_cursor(x, y);
         let pair = self.cursor_pair(x, y);

@@ -11,11 +11,5 @@ pub fn frame(record: &Record, video: &[u32], cursor: &[u32], lent: usize) -> Res
     s.judge_words(video, cursor)?;
     refuse_if(lent < s.n as usize * s.v as usize, SHORT)?;
     let picture = Picture { record, setting: &s, video, cursor };
-    let mut cells = Vec::new();
-    for y in 0..s.v {
-        for x in 0..s.n {
-            cells.push(picture.cell(x, y));
-        }
-    }
-    Ok(cells)
+    Ok((0..s.v).flat_map(|y| picture.raster(y)).collect())
 }

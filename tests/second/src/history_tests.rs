@@ -65,7 +65,7 @@ impl History {
     }
 }
 
-fn next(seed: &mut u64) -> u32 {
+pub fn next(seed: &mut u64) -> u32 {
     *seed = seed.wrapping_mul(6_364_136_223_846_793_005).wrapping_add(1_442_695_040_888_963_407);
     (*seed >> 32) as u32
 }

@@ -20,11 +20,13 @@ pub mod queue_calls;
 pub mod queue_sync;
 pub mod raster;
 pub mod raster_words;
+pub mod rasters;
 pub mod record;
 pub mod refusal;
 pub mod setting;
 pub mod sound;
 pub mod sound_judge;
+pub mod summaries;
 pub mod text;
 
 #[cfg(test)]
@@ -35,3 +37,7 @@ mod live_tests;
 mod paper_tests;
 #[cfg(test)]
 mod queue_tests;
+#[cfg(test)]
+mod rasters_tests;
+#[cfg(test)]
+mod summaries_tests;

@@ -2,14 +2,11 @@
 
 use crate::bench::Bench;
 use crate::parts::parts;
-use crate::refusal::Refusal;
+use crate::refusal::{or_refused, Refusal};
 use crate::setting;
 
 pub fn live(plate: &[u8]) -> String {
-    match one_frame(plate) {
-        Ok(lines) => lines,
-        Err(refusal) => format!("refused {} {}\n", refusal.number, refusal.detail),
-    }
+    or_refused(one_frame(plate))
 }
 
 /// A line for each raster that asked or loaded, then the frame's.

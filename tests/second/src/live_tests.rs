@@ -76,17 +76,22 @@ fn bytes_that_are_not_the_frames_own() {
     assert_eq!((bench.differs_at, bench.filler, bench.read), (Some(0), 9, 4));
 }
 
-#[test]
-fn refused_as_the_printer_is() {
-    let cut = &small_plate()[4..];
+/// Plates that the printer refuses, each with what it says.
+pub fn refused_plates() -> ([Vec<u8>; 8], [String; 8]) {
+    let cut = small_plate()[4..].to_vec();
     let mut wrong_address = small_plate();
     wrong_address[3] = 0x50;
     let no_video = plate::write(&small_registers(), &[], &[], &[], 1000).unwrap();
     let one_cursor = plate::write(&small_registers(), &[0], &[0], &[], 1000).unwrap();
     let unwritten = plate::write(&small_registers()[1..], &[0], &[], &[], 1000).unwrap();
-    let all = [cut, &wrong_address, &no_video, &one_cursor, &unwritten, &vec![0; 65_537], &vec![0; 65_536], &[]];
-    let said = all.map(live);
-    assert_eq!(said, all.map(text));
-    let expected = ["14 0", "2 0", "11 0", "11 0", "3 224", "15 0", "14 0", "14 0"];
-    assert_eq!(said, expected.map(|numbers| format!("refused {numbers}\n")));
+    let all = [cut, wrong_address, no_video, one_cursor, unwritten, vec![0; 65_537], vec![0; 65_536], vec![]];
+    let said = ["14 0", "2 0", "11 0", "11 0", "3 224", "15 0", "14 0", "14 0"];
+    (all, said.map(|numbers| format!("refused {numbers}\n")))
+}
+
+#[test]
+fn refused_as_the_printer_is() {
+    let (all, said) = refused_plates();
+    assert_eq!(all.clone().map(|plate| text(&plate)), said);
+    assert_eq!(all.map(|plate| live(&plate)), said);
 }

@@ -31,7 +31,7 @@ pub fn small_registers() -> Vec<u32> {
     words
 }
 
-const SMALL_VIDEO: [u32; 1] = [0x7654_3210];
+pub const SMALL_VIDEO: [u32; 1] = [0x7654_3210];
 
 pub fn small() -> Record {
     load(&Record::fresh(), &small_registers()).unwrap()

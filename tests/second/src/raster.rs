@@ -19,5 +19,5 @@ pub fn raster(
     refuse_if(y >= s.v, RASTER)?;
     refuse_if(lent < s.n as usize, SHORT)?;
     let picture = Picture { record, setting: &s, video, cursor };
-    Ok((0..s.n).map(|x| picture.cell(x, y)).collect())
+    Ok(picture.raster(y))
 }

@@ -2,7 +2,7 @@
 
 use crate::record::Record;
 use crate::refusal::{refuse_if, Refusal, RASTER};
-use crate::setting;
+use crate::setting::{self, Setting};
 use std::ops::Range;
 
 /// Where the stretch lies in the list; empty (0..0) for an undisplayed raster.
@@ -11,11 +11,12 @@ pub fn raster_words(record: &Record, video: &[u32], y: u16) -> Result<Range<usiz
     s.judge_video(video)?;
     let y = u32::from(y);
     refuse_if(y >= s.v, RASTER)?;
-    let displayed = s.display_on && s.vds <= y && y < s.vde;
-    if !displayed {
-        return Ok(0..0);
-    }
+    Ok(if s.displayed().contains(&y) { stretch(&s, y) } else { 0..0 })
+}
+
+/// The stretch of a displayed raster: nothing is skipped between rasters.
+pub fn stretch(s: &Setting, y: u32) -> Range<usize> {
     let words_each = (s.de - s.ds) * s.depth / 32;
     let start = (y - s.vds) * words_each;
-    Ok(start as usize..(start + words_each) as usize)
+    start as usize..(start + words_each) as usize
 }

@@ -23,6 +23,7 @@ pub const PLATE_FILE: u32 = 14;
 pub const TOO_LARGE: u32 = 15;
 pub const FULL: u32 = 16;
 pub const EMPTY: u32 = 17;
+pub const WORD_INDEX: u32 = 18;
 
 /// A refusal with detail 0.
 pub fn refusal(number: u32) -> Refusal {
@@ -40,4 +41,9 @@ pub fn refuse_if(wrong: bool, number: u32) -> Result<(), Refusal> {
     } else {
         Ok(())
     }
+}
+
+/// A plate's lines, or the one line of a refused plate.
+pub fn or_refused(lines: Result<String, Refusal>) -> String {
+    lines.unwrap_or_else(|refusal| format!("refused {} {}\n", refusal.number, refusal.detail))
 }

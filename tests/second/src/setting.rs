@@ -4,6 +4,7 @@ use crate::address::*;
 use crate::needed;
 use crate::record::Record;
 use crate::refusal::*;
+use std::ops::Range;
 
 /// The paper's letters. Read from the data alone, written or not; the checks come after.
 #[derive(Clone, Debug, PartialEq, Eq)]
@@ -114,6 +115,11 @@ impl Setting {
             && self.vbe <= self.v;
         let border_in_order = self.vs <= self.vbs && self.vbs < self.vbe && self.vbe <= self.v;
         self.vs <= self.v && (both_in_order || (!self.display_on && (!self.border_on || border_in_order)))
+    }
+
+    /// The displayed rasters, VDS up to VDE: none where the display is off.
+    pub fn displayed(&self) -> Range<u32> {
+        self.vds..self.vde
     }
 
     /// Video words that a frame of this (checked) setting needs.

@@ -3,15 +3,12 @@
 use crate::cell::code;
 use crate::drawn::drawn;
 use crate::marks::marked;
-use crate::refusal::Refusal;
+use crate::refusal::{or_refused, Refusal};
 
-const THRESHOLD: u8 = 128;
+pub const THRESHOLD: u8 = 128;
 
 pub fn text(input: &[u8]) -> String {
-    match picture(input) {
-        Ok(lines) => lines,
-        Err(refusal) => format!("refused {} {}\n", refusal.number, refusal.detail),
-    }
+    or_refused(picture(input))
 }
 
 /// The text of a plate that is not refused.

@@ -1,89 +1,148 @@
+-- A raster by whole words: those before and behind the cursor's part show what their pixels do, so all three sums are the raster's.
+use Rattle.marks.proofs.Extents.{entry-shown}
+use Rattle.marks.proofs.Flags.{zeros-at}
+use Rattle.marks.proofs.Masks.{bytes-most}
+use Rattle.marks.proofs.Parts.{part-inside}
+use Rattle.marks.proofs.Showing.{raster-few}
+use Rattle.marks.proofs.Spread.{raster-inside, parts-shown, parts-seen}
+use Rattle.registers.proofs.Words.{depth-least, depth-most}
+use mathlib.Core.Path.{refl, _∙_}
+use native.Mathlib.Omega.{arith}
 use borrow.Author.Needs.{needs}
 use Rattle.marks.proofs.rasters.by_words.Statement.{statement}
 use Rattle.marks.proofs.rasters.by_words.Tie as tie
-use Rattle.marks.proofs.rasters.by_words.Reads as reads
-use Rattle.marks.proofs.rasters.by_words.Lts as lts
-use Rattle.marks.proofs.extremes.entry_of.Reads as entry-of-reads
-use Rattle.marks.proofs.part.cursor_part.Reads as cursor-part-reads
-use Rattle.marks.proofs.rasters.raster_words.Reads as raster-words-reads
-use Rattle.marks.proofs.shown.shown_in.Reads as shown-in-reads
-use Rattle.marks.proofs.spans.span.Reads as span-reads
 
--- src/rasters.rt:58:31
 cast-t18 : tie.Need-cast-t18
 cast-t18 c = search needs
 
--- src/rasters.rt:58:21
 add-t19 : tie.Need-add-t19
 add-t19 c = search needs
 
--- src/rasters.rt:59:9
 raster-words-requires : tie.Need-raster-words-requires
 raster-words-requires c κs = search needs
 
--- src/rasters.rt:60:20
 cast-per : tie.Need-cast-per
-cast-per c = ?
+cast-per c = omega (arith, depth-most (c .before .before .before .before .before .pre .0 .accepted .depth))
 
--- src/rasters.rt:60:15
 div-per : tie.Need-div-per
-div-per c = ?
+div-per c = omega (arith, depth-least (c .before .before .before .before .before .pre .0 .accepted .depth))
 
--- src/rasters.rt:61:17
 mul-first : tie.Need-mul-first
-mul-first c = ?
+mul-first c =
+    let words = c .before in
+    let s = words .before .before .before .before in
+    omega (arith, raster-inside _ _ (s .pre .0) (s .pre .1) (words .raster-words .ensures))
 
--- src/rasters.rt:62:9
 cursor-part-requires : tie.Need-cursor-part-requires
 cursor-part-requires c κs = search needs
 
--- src/rasters.rt:70:9
 add-span : tie.Need-add-span
-add-span c = ?
+add-span c =
+    let part = c .before in
+    let words = part .before .before in
+    let s = words .before .before .before .before in
+    let fits = raster-inside _ _ (s .pre .0) (s .pre .1) (words .raster-words .ensures) in
+    omega (arith, fits, part .cursor-part .ensures)
 
--- src/rasters.rt:64:9
 span-requires : tie.Need-span-requires
-span-requires c κs = ?
+span-requires c κs =
+    let part = c .before .before in
+    let words = part .before .before in
+    let s = words .before .before .before .before in
+    let fits = raster-inside _ _ (s .pre .0) (s .pre .1) (words .raster-words .ensures) in
+    let inside = part .cursor-part .ensures in (
+      s .pre .0 .accepted .depth,
+      bytes-most _ _ (s .pre .2 .few) (s .pre .2 .summed),
+      s .pre .2 .held,
+      omega arith,
+      omega arith,
+      omega arith,
+      refl,
+    )
 
--- src/rasters.rt:79:9
 mul-shown-in : tie.Need-mul-shown-in
-mul-shown-in c = ?
+mul-shown-in c =
+    let part = c .before .before .before .before in
+    let s = part .before .before .before .before .before .before in
+    omega (arith, part-inside _ (s .pre .0 .accepted) (part .cursor-part .ensures))
 
--- src/rasters.rt:80:9
 mul-shown-in-2 : tie.Need-mul-shown-in-2
-mul-shown-in-2 c = ?
+mul-shown-in-2 c =
+    let part = c .before .before .before .before .before in
+    let s = part .before .before .before .before .before .before in
+    omega (arith, part-inside _ (s .pre .0 .accepted) (part .cursor-part .ensures))
 
--- src/rasters.rt:73:9
 shown-in-requires : tie.Need-shown-in-requires
-shown-in-requires c κs = ?
+shown-in-requires c κs =
+    let part = c .before .before .before .before .before .before in
+    let s = part .before .before .before .before .before .before in
+    let inside = part-inside _ (s .pre .0 .accepted) (part .cursor-part .ensures) in
+    (s .pre .0, omega arith, omega arith, inside .0, inside .1, s .pre .2 .few, c .before .before .before .span .ensures .2 .len)
 
--- src/rasters.rt:88:9
 add-span-2 : tie.Need-add-span-2
-add-span-2 c = ?
+add-span-2 c =
+    let part = c .before .before .before .before .before .before .before .before in
+    let words = part .before .before in
+    let s = words .before .before .before .before in
+    let fits = raster-inside _ _ (s .pre .0) (s .pre .1) (words .raster-words .ensures) in
+    omega (arith, fits, part .cursor-part .ensures)
 
--- src/rasters.rt:89:9
 add-span-3 : tie.Need-add-span-3
-add-span-3 c = ?
+add-span-3 c =
+    let words = c .before .before .before .before .before .before .before .before .before .before in
+    let s = words .before .before .before .before in
+    omega (arith, raster-inside _ _ (s .pre .0) (s .pre .1) (words .raster-words .ensures))
 
--- src/rasters.rt:83:9
 span-requires-2 : tie.Need-span-requires-2
-span-requires-2 c κs = ?
+span-requires-2 c κs =
+    let part = c .before .before .before .before .before .before .before .before .before in
+    let words = part .before .before in
+    let s = words .before .before .before .before in
+    let fits = raster-inside _ _ (s .pre .0) (s .pre .1) (words .raster-words .ensures) in
+    let inside = part .cursor-part .ensures in (
+      s .pre .0 .accepted .depth,
+      bytes-most _ _ (s .pre .2 .few) (s .pre .2 .summed),
+      s .pre .2 .held,
+      omega arith,
+      omega arith,
+      omega arith,
+      c .before .before .shown-in .ensures .2 .len ∙ c .before .before .before .before .before .before .span .ensures .2 .len,
+    )
 
--- src/rasters.rt:92:38
 add-entry-of : tie.Need-add-entry-of
 add-entry-of c = search needs
 
--- src/rasters.rt:92:38
 add-entry-of-2 : tie.Need-add-entry-of-2
 add-entry-of-2 c = search needs
 
--- src/rasters.rt:92:5
 entry-of-requires : tie.Need-entry-of-requires
-entry-of-requires c κs = ?
+entry-of-requires c κs =
+    let right = c .before in
+    let middle = right .before .before .before in
+    let left = middle .before .before .before .before in
+    let part = left .before .before .before in
+    let words = part .before .before in
+    let s = words .before .before .before .before in
+    let a = s .pre .0 .accepted in
+    let e = words .raster-words .ensures in
+    let inside = part .cursor-part .ensures in
+    let sums = parts-shown _ a _ _ _ _ e _ inside _ _ (s .pre .2 .summed) (left .span .ensures .0) (middle .shown-in .ensures .0) (right .span2 .ensures .0) in
+    (a .depth, raster-few _ _ _ _ _ a (s .pre .2 .few) sums)
 
--- src/rasters.rt:45:1
 returns : tie.Need-returns
-returns c = ?
+returns c =
+    let right = c .before .before in
+    let middle = right .before .before .before in
+    let left = middle .before .before .before .before in
+    let part = left .before .before .before in
+    let words = part .before .before in
+    let s = words .before .before .before .before in
+    let a = s .pre .0 .accepted in
+    let e = words .raster-words .ensures in
+    let inside = part .cursor-part .ensures in
+    let sums = parts-shown _ a _ _ _ _ e _ inside _ _ (s .pre .2 .summed) (left .span .ensures .0) (middle .shown-in .ensures .0) (right .span2 .ensures .0) in
+    let seen = parts-seen _ a _ _ _ _ e _ inside (left .span .ensures .2) (middle .shown-in .ensures .2) (right .span2 .ensures .2) in
+    entry-shown _ _ _ _ _ _ a (zeros-at 256) refl seen sums (c .entry-of .ensures)
 
 pub by-words-spec : {M : Type 1} → statement M
 by-words-spec =

@@ -1,32 +1,29 @@
+-- The words of a displayed raster: the product of its width and its depth stays small.
+use Rattle.cells.proofs.RasterWords.{bits-most}
+use Rattle.registers.proofs.Words.{depth-most, raster-words}
+use mathlib.Core.Path.{sym}
+use native.Mathlib.Omega.{arith}
 use borrow.Author.Needs.{needs}
 use Rattle.marks.proofs.rasters.raster_words.Statement.{statement}
 use Rattle.marks.proofs.rasters.raster_words.Tie as tie
-use Rattle.marks.proofs.rasters.raster_words.Reads as reads
-use Rattle.marks.proofs.rasters.raster_words.Lts as lts
 
--- src/rasters.rt:22:6
 cast-result : tie.Need-cast-result
 cast-result c = search needs
 
--- src/rasters.rt:22:24
 cast-result-2 : tie.Need-cast-result-2
 cast-result-2 c = search needs
 
--- src/rasters.rt:22:6
 sub-result : tie.Need-sub-result
 sub-result c = search needs
 
--- src/rasters.rt:22:43
 cast-result-3 : tie.Need-cast-result-3
-cast-result-3 c = ?
+cast-result-3 c = omega (arith, depth-most (c .before .before .before .pre .depth))
 
--- src/rasters.rt:22:5
 mul-result : tie.Need-mul-result
-mul-result c = ?
+mul-result c = omega (arith, bits-most _ (c .before .before .before .pre))
 
--- src/rasters.rt:18:1
 returns : tie.Need-returns
-returns c = ?
+returns c = sym (raster-words _)
 
 pub raster-words-spec : {M : Type 1} → statement M
 raster-words-spec =

@@ -1,42 +1,48 @@
+-- Whether a displayed position is covered: it lies in the border, so where the cursor has it a pair other than 00 covers it.
+use Rattle.marks.proofs.Showing.{outside-clear, display-reached, pair-room, pair-covers}
+use mathlib.Core.Path.{sym, _∙_}
+use native.Mathlib.Omega.{arith}
 use borrow.Author.Needs.{needs}
 use Rattle.marks.proofs.shown.is_covered.Statement.{statement}
 use Rattle.marks.proofs.shown.is_covered.Tie as tie
-use Rattle.marks.proofs.shown.is_covered.Reads as reads
-use Rattle.marks.proofs.shown.is_covered.Lts as lts
-use Rattle.marks.proofs.cover.pair_at.Reads as pair-at-reads
-use Rattle.marks.proofs.shown.is_in_cursor.Reads as is-in-cursor-reads
 
--- src/shown.rt:35:8
 is-in-cursor-requires : tie.Need-is-in-cursor-requires
 is-in-cursor-requires c κs = search needs
 
--- src/shown.rt:36:33
 sub-pair-at : tie.Need-sub-pair-at
-sub-pair-at c = ?
+sub-pair-at c =
+    let test = c .before .before in
+    let s = test .before .before .before in
+    let r = display-reached _ (s .args .cursor .now) _ _ (s .pre .0) (s .pre .1) (sym (test .before .is-in-cursor .ensures) ∙ test .if1 .taken) in
+    omega (arith, r .cursor .above)
 
--- src/shown.rt:36:32
 cast-pair-at : tie.Need-cast-pair-at
 cast-pair-at c = search needs
 
--- src/shown.rt:36:59
 sub-pair-at-2 : tie.Need-sub-pair-at-2
-sub-pair-at-2 c = ?
+sub-pair-at-2 c =
+    let test = c .before .before .before .before in
+    let s = test .before .before .before in
+    let r = display-reached _ (s .args .cursor .now) _ _ (s .pre .0) (s .pre .1) (sym (test .before .is-in-cursor .ensures) ∙ test .if1 .taken) in
+    omega (arith, r .cursor .left)
 
--- src/shown.rt:36:58
 cast-pair-at-2 : tie.Need-cast-pair-at-2
 cast-pair-at-2 c = search needs
 
--- src/shown.rt:36:16
 pair-at-requires : tie.Need-pair-at-requires
-pair-at-requires c κs = ?
+pair-at-requires c κs =
+    let test = c .before .before .before .before in
+    let s = test .before .before .before in
+    pair-room _ (s .args .cursor .now) _ _ (s .pre .0) (s .pre .1) (sym (test .before .is-in-cursor .ensures) ∙ test .if1 .taken) (s .pre .2)
 
--- src/shown.rt:36:9
 returns : tie.Need-returns
-returns c = ?
+returns c =
+    let test = c .before .before .before .before .before in
+    let s = test .before .before .before in
+    pair-covers _ _ _ _ (s .pre .0) (s .pre .1) (sym (test .before .is-in-cursor .ensures) ∙ test .if1 .taken) (c .pair-at .ensures)
 
--- src/shown.rt:31:1
 returns-2 : tie.Need-returns-2
-returns-2 c = ?
+returns-2 c = outside-clear _ _ _ _ (sym (c .before .is-in-cursor .ensures) ∙ c .if1 .left)
 
 pub is-covered-spec : {M : Type 1} → statement M
 is-covered-spec =

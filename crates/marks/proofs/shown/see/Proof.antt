@@ -1,35 +1,42 @@
+-- A displayed position's pixel: it stands in the words, and is below 256, so it has a flag and an entry.
+use Rattle.marks.proofs.Covering.{position-small, pixel-room, pixel-entry}
+use Rattle.marks.proofs.Flags.{flagged-one}
+use Rattle.cells.specs.Pixel.{pixel}
+use Rattle.registers.proofs.Words.{depth-most}
+use lib.ListN.{getD}
+use mathlib.Core.Path.{_∙_, ap}
+use native.Mathlib.Omega.{arith}
 use borrow.Author.Needs.{needs}
 use Rattle.marks.proofs.shown.see.Statement.{statement}
 use Rattle.marks.proofs.shown.see.Tie as tie
-use Rattle.marks.proofs.shown.see.Reads as reads
-use Rattle.marks.proofs.shown.see.Lts as lts
-use Rattle.marks.proofs.cover.entry.Reads as entry-reads
-use Rattle.marks.proofs.cover.place.Reads as place-reads
-use Rattle.marks.proofs.pixels.pixel_at.Reads as pixel-at-reads
 
--- src/shown.rt:54:9
 place-requires : tie.Need-place-requires
 place-requires c κs = search needs
 
--- src/shown.rt:55:33
 cast-pixel-at : tie.Need-cast-pixel-at
-cast-pixel-at c = ?
+cast-pixel-at c = omega (arith, depth-most (c .before .before .before .pre .0 .depth))
 
--- src/shown.rt:55:9
 pixel-at-requires : tie.Need-pixel-at-requires
-pixel-at-requires c κs = ?
+pixel-at-requires c κs =
+    let s = c .before .before .before in (
+      s .pre .0 .depth,
+      rw (c .before .place .ensures) (pixel-room _ _ _ (s .pre .0) (s .pre .1) _ (s .pre .2)),
+      rw (c .before .place .ensures) (position-small _ _ _ (s .pre .0) (s .pre .1)),
+    )
 
--- src/shown.rt:56:5
 element-write-flags : tie.Need-element-write-flags
-element-write-flags c = ?
+element-write-flags c = rw (c .pixel-at .ensures) (pixel-entry _ _ _ (c .before .before .before .before .pre .0))
 
--- src/shown.rt:57:5
 entry-requires : tie.Need-entry-requires
-entry-requires c κs = ?
+entry-requires c κs = rw (c .pixel-at .ensures) (pixel-entry _ _ _ (c .before .before .before .before .pre .0))
 
--- src/shown.rt:42:1
 returns : tie.Need-returns
-returns c = ?
+returns c =
+    let s = c .before .before .before .before .before in
+    let at = c .before .pixel-at .ensures ∙ ap (pixel (s .args .video .now) (s .args .s .depth)) (c .before .before .before .place .ensures) in (
+      c .entry .ensures .0 ∙ ap (λ p. getD (s .args .pixels .now) p 0) at,
+      rw at (flagged-one (s .args .flags .now) _ (s .pre .3) (pixel-entry _ _ _ (s .pre .0))),
+    )
 
 pub see-spec : {M : Type 1} → statement M
 see-spec =

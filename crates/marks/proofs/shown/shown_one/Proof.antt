@@ -1,34 +1,36 @@
+-- Display position p: nothing where it is covered, else what the table has for its pixel.
+use Rattle.marks.proofs.Showing.{shown-none, shown-some, shown-most, seen-none, seen-some}
+use native.Mathlib.Omega.{arith}
 use borrow.Author.Needs.{needs}
 use Rattle.marks.proofs.shown.shown_one.Statement.{statement}
 use Rattle.marks.proofs.shown.shown_one.Tie as tie
-use Rattle.marks.proofs.shown.shown_one.Reads as reads
-use Rattle.marks.proofs.shown.shown_one.Lts as lts
-use Rattle.marks.proofs.shown.is_covered.Reads as is-covered-reads
-use Rattle.marks.proofs.shown.see.Reads as see-reads
 
--- src/shown.rt:75:29
 cast-t9 : tie.Need-cast-t9
 cast-t9 c = search needs
 
--- src/shown.rt:75:20
 add-t10 : tie.Need-add-t10
 add-t10 c = search needs
 
--- src/shown.rt:76:8
 is-covered-requires : tie.Need-is-covered-requires
 is-covered-requires c κs = search needs
 
--- src/shown.rt:77:9
 returns : tie.Need-returns
-returns c = ?
+returns c =
+    let e = c .before .is-covered .ensures in
+    (shown-none _ _ _ _ _ e _ (c .if1 .taken), omega arith, seen-none _ _ _ _ _ e _ (c .if1 .taken))
 
--- src/shown.rt:79:5
 see-requires : tie.Need-see-requires
 see-requires c κs = search needs
 
--- src/shown.rt:61:1
 returns-2 : tie.Need-returns-2
-returns-2 c = ?
+returns-2 c =
+    let test = c .before .before in
+    let e = test .before .is-covered .ensures in
+    let shown = shown-some _ _ _ _ _ e _ (test .if1 .left) (c .see .ensures .0) in (
+      shown,
+      rw shown (shown-most _ _ _ _ _ _ (test .before .before .before .before .before .pre .4)),
+      seen-some _ _ _ _ _ e (test .if1 .left) (c .see .ensures .1),
+    )
 
 pub shown-one-spec : {M : Type 1} → statement M
 shown-one-spec =

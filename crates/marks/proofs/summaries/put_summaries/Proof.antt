@@ -1,6 +1,5 @@
 -- A given picture's entries have room, or row 13 refuses; else they are put, by tables that hold what they should.
 use native.Mathlib.Omega.{arith}
-use mathlib.Core.Path.{refl}
 use borrow.Author.Needs.{needs}
 use Rattle.cells.proofs.Pictures.{given-picture}
 use Rattle.marks.proofs.Calls.{summaries-short, summaries-put}
