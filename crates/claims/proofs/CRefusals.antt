@@ -1,10 +1,10 @@
 -- Demand 1 for the calls for C: of each that can refuse, the numbers it can answer, exactly when, and in which order; refused, it leaves every
 -- lent memory as it was. What a call tells is put together of the tables of the calls below it, and the number that it answers says it.
-use Prim.Native.Nat.{ℕ, _*_, _%_}
+use Prim.Native.Nat.{ℕ, _+_, _*_, _%_}
 use mathlib.Core.Path.{_≡_, refl}
 use mathlib.Core.List.{List, [], _∷_, _++_}
 use native.Mathlib.Omega.{arith}
-use lib.ListN.{length}
+use lib.ListN.{length, set}
 use lib.Seq.{sets}
 use Rattle.buffers.specs.Painted.{painted}
 use Rattle.refusals.specs.Table.{Told, given, Row, judged, unlessRefused}
@@ -22,9 +22,11 @@ use Rattle.colours.specs.Colour.{colourOf}
 use Rattle.cells.specs.Picture.{pictureTable}
 use Rattle.frame.specs.Frame.{cells, frameCell, frameTable, frameTold, frameLeaves, rasterCell, rasterTable, rasterTold, rasterLeaves}
 use Rattle.frame.proofs.Told.{frame-told, raster-told}
-use Rattle.marks.proofs.Told.{marks-told}
+use Rattle.marks.proofs.Told.{marks-told, summaries-told, replace-told}
 use Rattle.stretch.proofs.Told.{stretch-told}
 use Rattle.marks.specs.Marks.{marksOf, marksTold}
+use Rattle.marks.specs.Summaries.{numbers as entryNumbers, numberAt, rasterOf, summariesTable, summariesTold, summariesLeaves}
+use Rattle.marks.specs.Summaries.{replaceTable, replaceTold, videoLeaves, replaceLeaves}
 use Rattle.stretch.specs.Stretch.{stretchOf, stretchTable, stretchTold}
 use Rattle.sound.specs.Values.{counterAfter}
 use Rattle.sound.specs.Play.{playTable, playTold, playedOf}
@@ -39,6 +41,7 @@ use Rattle.vombelishi.specs.Load.{valueStored, flagStored, valuesStored, flagsS
 use Rattle.vombelishi.specs.Load.{wordCall, wordValuesLeaves, wordWrittenLeaves}
 use Rattle.vombelishi.specs.Settings.{numbersOf, settingTold, checkCall, checkSoundCall}
 use Rattle.vombelishi.specs.Pictures.{frameCall, frameCallLeaves, rasterCall, rasterCallLeaves, foundTold, wordsCall, marksCall, colourCall}
+use Rattle.vombelishi.specs.Summaries.{summariesCall, summariesCallLeaves, replaceCall, videoCallLeaves, replaceCallLeaves}
 use Rattle.vombelishi.specs.Queued.{syncCall}
 use Rattle.vombelishi.specs.Sounds.{soundCall, soundLeaves, counterLeaves, pairCall}
 use Rattle.vombelishi.specs.Files.{nineOf, readCall}
@@ -49,8 +52,8 @@ use Rattle.plates.proofs.Told.{read-told, copy-told, write-told}
 use Rattle.claims.specs.Calls.{Every, numbers, settingNumbers, ByTable, Kept}
 use Rattle.claims.specs.CRows.{ofRecord, roomFor, textRows}
 use Rattle.claims.specs.CViews as c
-use Rattle.claims.specs.CViews.{LoadRun, CheckRun, CheckSoundRun, FrameRun, RasterRun, WordsRun, MarksRun, ColourRun, SyncRun}
-use Rattle.claims.specs.CViews.{SoundRun, PairRun, FileRun, WriteRun, TextRun}
+use Rattle.claims.specs.CViews.{LoadRun, CheckRun, CheckSoundRun, FrameRun, RasterRun, WordsRun, MarksRun, SummariesRun, ReplaceRun}
+use Rattle.claims.specs.CViews.{ColourRun, SyncRun, SoundRun, PairRun, FileRun, WriteRun, TextRun}
 use Rattle.claims.proofs.CCodes.{no-rows, plain, fits-after, setting-fits, sound-fits, load-fits}
 use Rattle.claims.proofs.CCodes.{by-code, kept-code, kept-under, record-told, record-fits, record-code, room-code}
 
@@ -79,6 +82,14 @@ module _ (values written : List ℕ) where
 
     pub vom-marks-numbers : numbers (ofRecord values written λ g. pictureTable g video cursor) ≡ 13 ∷ (settingNumbers ++ (11 ∷ []))
     vom-marks-numbers = refl
+
+    pub vom-summaries-numbers : (places : ℕ)
+        → numbers (ofRecord values written λ g. summariesTable g video cursor places) ≡ 13 ∷ (settingNumbers ++ (11 ∷ 13 ∷ []))
+    vom-summaries-numbers places = refl
+
+    pub vom-replace-numbers : (index places : ℕ)
+        → numbers (ofRecord values written λ g. replaceTable g video cursor index places) ≡ 13 ∷ (settingNumbers ++ (11 ∷ 18 ∷ 13 ∷ []))
+    vom-replace-numbers index places = refl
 
   pub vom-raster-words-numbers : (video : List ℕ) (y places : ℕ)
       → numbers ((ofRecord values written λ g. stretchTable g video y) ++ roomFor 2 places) ≡ 13 ∷ (settingNumbers ++ (11 ∷ 12 ∷ 13 ∷ []))
@@ -213,6 +224,42 @@ vom-marks-refuses κs a x s p =
           (λ g. marks-told g (run .video) (run .cursor) (run .threshold)) (p .0),
       kept-code (marksCall (run .values) (run .written) (run .video) (run .cursor) (run .threshold)) (λ u. cellBy u (run .before))
           (p .0) (p .1) (λ w. refl),
+    )
+
+pub vom-summaries-refuses : Every c.summaries λ run.
+    ByTable (run .answer) (ofRecord (run .values) (run .written) λ g. summariesTable g (run .video) (run .cursor) (length (run .before))) tt
+    × Kept (run .answer) (run .before) (run .after)
+unfolding summariesCall summariesCallLeaves summariesLeaves
+vom-summaries-refuses κs a x s p =
+    let run : SummariesRun = c.summaries .seen κs a x s in
+    let tells : Registers → Told (Unit {0}) = λ g. summariesTold g (run .video) (run .cursor) (length (run .before)) in
+    let afresh : Registers → List ℕ = λ g.
+    painted (run .before) 0 (entryNumbers (settingOf g)) (numberAt g (settingOf g) (run .video) (run .cursor) (run .threshold)) in (
+      record-code (run .values) (run .written) tells (λ g. summariesTable g (run .video) (run .cursor) (length (run .before))) (λ g. tt)
+          (λ g. fits-after (setting-fits g) (plain (omega arith) (plain (omega arith) no-rows)))
+          (λ g. summaries-told g (run .video) (run .cursor) (length (run .before))) (p .0),
+      kept-under (recordTold (run .values) (run .written)) tells (λ g. summariesLeaves g (run .video) (run .cursor) (run .threshold) (run .before))
+          afresh (λ g. refl) (p .0) (p .1),
+    )
+
+pub vom-replace-refuses : Every c.replace λ run.
+    ByTable (run .answer) (ofRecord (run .values) (run .written) λ g. replaceTable g (run .video) (run .cursor) (run .index) (length (run .before))) tt
+    × Kept (run .answer) (run .video) (run .list) × Kept (run .answer) (run .before) (run .after)
+unfolding replaceCall videoCallLeaves replaceCallLeaves videoLeaves replaceLeaves
+vom-replace-refuses κs a x s p =
+    let run : ReplaceRun = c.replace .seen κs a x s in
+    let tells : Registers → Told (Unit {0}) = λ g. replaceTold g (run .video) (run .cursor) (run .index) (length (run .before)) in
+    let list = set (run .video) (run .index) (run .word) in
+    let entry : Registers → List ℕ = λ g.
+    painted (run .before) (3 * rasterOf (settingOf g) (run .index)) (3 * rasterOf (settingOf g) (run .index) + 3)
+    (numberAt g (settingOf g) list (run .cursor) (run .threshold)) in (
+      record-code (run .values) (run .written) tells (λ g. replaceTable g (run .video) (run .cursor) (run .index) (length (run .before))) (λ g. tt)
+          (λ g. fits-after (setting-fits g) (plain (omega arith) (plain (omega arith) (plain (omega arith) no-rows))))
+          (λ g. replace-told g (run .video) (run .cursor) (run .index) (length (run .before))) (p .0),
+      kept-under (recordTold (run .values) (run .written)) tells
+          (λ g. videoLeaves g (run .video) (run .cursor) (run .index) (run .word) (length (run .before))) (λ g. list) (λ g. refl) (p .0) (p .1),
+      kept-under (recordTold (run .values) (run .written)) tells
+          (λ g. replaceLeaves g (run .video) (run .cursor) (run .threshold) (run .index) (run .word) (run .before)) entry (λ g. refl) (p .0) (p .2),
     )
 
 pub vom-colour-refuses : Every c.colour λ run.

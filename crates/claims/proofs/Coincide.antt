@@ -14,7 +14,7 @@ pub use Rattle.queues.proofs.Unique.{one-queue-load, one-queue-read, one-queue-
 pub use Rattle.colours.proofs.Unique.{one-shown, one-colour, one-entries, one-grey, one-pin}
 pub use Rattle.cells.proofs.Unique.{one-words-wrong, one-judge}
 pub use Rattle.frame.proofs.Unique.{one-frame, one-raster}
-pub use Rattle.marks.proofs.Unique.{one-marks}
+pub use Rattle.marks.proofs.Unique.{one-marks, one-summaries, one-replace}
 pub use Rattle.stretch.proofs.Unique.{one-find, one-raster-words, one-raster-words-answer}
 pub use Rattle.sound.proofs.Unique.{one-pair, one-play}
 pub use Rattle.plates.proofs.Unique.{one-read, one-copy-out, one-write}
@@ -24,6 +24,6 @@ pub use Rattle.sheets.proofs.Unique.{one-take, one-take-input}
 pub use Rattle.outputs.proofs.Unique.{one-line, one-refused, one-text, one-strip, one-block, one-refusal}
 pub use Rattle.vombelishi.proofs.Unique.{one-vom-read, one-vom-copy, one-vom-write, one-vom-colour, one-vom-grey, one-vom-pin, one-vom-load}
 pub use Rattle.vombelishi.proofs.Unique.{one-vom-load-word, one-vom-frame, one-vom-raster, one-vom-raster-words, one-vom-marks, one-vom-check}
-pub use Rattle.vombelishi.proofs.Unique.{one-vom-check-sound, one-vom-sound, one-vom-sound-pair, one-vom-text}
+pub use Rattle.vombelishi.proofs.Unique.{one-vom-summaries, one-vom-replace, one-vom-check-sound, one-vom-sound, one-vom-sound-pair, one-vom-text}
 pub use Rattle.vombelishi.proofs.Unique.{one-vom-queue-fresh, one-vom-queue-load, one-vom-queue-read, one-vom-queue-vertical-sync}
 pub use Rattle.vombelishi.proofs.Unique.{one-vom-queue-ask, one-vom-sync-ask}

@@ -13,6 +13,7 @@ pub mod CRefusals
 pub mod Lent
 pub mod Dark
 pub mod Demands
+pub mod PerRaster
 pub mod Printed
 pub mod Cases
 pub mod SmallText

@@ -1,9 +1,9 @@
 -- Demand 1: for each public call that can refuse, the numbers it can answer, exactly when, and in which order.
 -- Each is said of every run that the call's own promise permits; refused, it leaves lent memory and records as they were.
-use Prim.Native.Nat.{ℕ, _*_, _%_}
+use Prim.Native.Nat.{ℕ, _+_, _*_, _%_}
 use mathlib.Core.Path.{_≡_, refl, sym, _∙_, ap}
 use mathlib.Core.List.{List, [], _∷_, _++_}
-use lib.ListN.{length}
+use lib.ListN.{length, set}
 use lib.Seq.{sets}
 use Rattle.buffers.specs.Painted.{painted}
 use Rattle.registers.specs.Record.{storedOf, wordTable}
@@ -18,9 +18,11 @@ use Rattle.frame.specs.Frame.{cells, frameCell, frameLeaves, rasterCell, raster
 use Rattle.cells.specs.Picture.{pictureTable}
 use Rattle.cells.proofs.Pictures.{picture-told}
 use Rattle.frame.proofs.Told.{frame-told, raster-told}
-use Rattle.marks.proofs.Told.{marks-told}
+use Rattle.marks.proofs.Told.{marks-told, summaries-told, replace-told}
 use Rattle.stretch.proofs.Told.{stretch-told}
 use Rattle.marks.specs.Marks.{marksOf}
+use Rattle.marks.specs.Summaries.{numbers as entryNumbers, numberAt, rasterOf, summariesTable, summariesLeaves}
+use Rattle.marks.specs.Summaries.{replaceTable, videoLeaves, replaceLeaves}
 use Rattle.stretch.specs.Stretch.{stretchOf, stretchTable, stretchTold, answerTold}
 use Rattle.stretch.specs.declared.found.Stretch.{Stretch}
 use Rattle.sound.specs.Values.{counterAfter}
@@ -33,7 +35,8 @@ use Rattle.sound.proofs.Told.{play-told, pair-told}
 use Rattle.plates.proofs.Told.{read-told, copy-told, write-told}
 use Rattle.claims.specs.Calls.{Every, numbers, settingNumbers, ByTable, Kept}
 use Rattle.claims.specs.Views as call
-use Rattle.claims.specs.Views.{LoadRun, PictureRun, FrameRun, RasterRun, MarksRun, StretchRun, PlayRun, PairRun, CopyRun, WriteRun}
+use Rattle.claims.specs.Views.{LoadRun, PictureRun, FrameRun, RasterRun, MarksRun, SummariesRun, ReplaceRun, StretchRun}
+use Rattle.claims.specs.Views.{PlayRun, PairRun, CopyRun, WriteRun}
 use Rattle.claims.proofs.Tables.{by-table, kept}
 
 -- The numbers of each table, in its order.
@@ -56,6 +59,15 @@ raster-numbers g video cursor y room = refl
 -- Judging a picture and counting its marks have one table.
 pub picture-numbers : (g : Registers) (video cursor : List ℕ) → numbers (pictureTable g video cursor) ≡ settingNumbers ++ (11 ∷ [])
 picture-numbers g video cursor = refl
+
+-- Marks per raster: 18 stands between 11 and 13.
+pub summaries-numbers : (g : Registers) (video cursor : List ℕ) (room : ℕ)
+    → numbers (summariesTable g video cursor room) ≡ settingNumbers ++ (11 ∷ 13 ∷ [])
+summaries-numbers g video cursor room = refl
+
+pub replace-numbers : (g : Registers) (video cursor : List ℕ) (index room : ℕ)
+    → numbers (replaceTable g video cursor index room) ≡ settingNumbers ++ (11 ∷ 18 ∷ 13 ∷ [])
+replace-numbers g video cursor index room = refl
 
 pub raster-words-numbers : (g : Registers) (video : List ℕ) (y : ℕ) → numbers (stretchTable g video y) ≡ settingNumbers ++ (11 ∷ 12 ∷ [])
 raster-words-numbers g video y = refl
@@ -135,6 +147,32 @@ pub marks-refuses : Every call.marks λ run.
 marks-refuses κs a x s p =
     let run : MarksRun = call.marks .seen κs a x s in
     by-table _ _ (p ∙ marks-told (run .registers) (run .video) (run .cursor) (run .threshold))
+
+-- Marks per raster; a replacement that is refused leaves the list too.
+pub summaries-refuses : Every call.summaries λ run.
+    ByTable (run .answer) (summariesTable (run .registers) (run .video) (run .cursor) (length (run .before))) tt
+    × Kept (run .answer) (run .before) (run .after)
+unfolding summariesLeaves
+summaries-refuses κs a x s p =
+    let run : SummariesRun = call.summaries .seen κs a x s in
+    let g = run .registers in (
+      by-table tt _ (p .0 ∙ summaries-told g (run .video) (run .cursor) (length (run .before))),
+      kept (painted (run .before) 0 (entryNumbers (settingOf g)) (numberAt g (settingOf g) (run .video) (run .cursor) (run .threshold))) (p .0) (p .1),
+    )
+
+pub replace-refuses : Every call.replace λ run.
+    ByTable (run .answer) (replaceTable (run .registers) (run .video) (run .cursor) (run .index) (length (run .before))) tt
+    × Kept (run .answer) (run .video) (run .list) × Kept (run .answer) (run .before) (run .after)
+unfolding videoLeaves replaceLeaves
+replace-refuses κs a x s p =
+    let run : ReplaceRun = call.replace .seen κs a x s in
+    let g = run .registers in
+    let list = set (run .video) (run .index) (run .word) in
+    let r = rasterOf (settingOf g) (run .index) in (
+      by-table tt _ (p .0 ∙ replace-told g (run .video) (run .cursor) (run .index) (length (run .before))),
+      kept list (p .0) (p .1),
+      kept (painted (run .before) (3 * r) (3 * r + 3) (numberAt g (settingOf g) list (run .cursor) (run .threshold))) (p .0) (p .2),
+    )
 
 -- Where a raster's words stand, and of the words themselves the refusal or none.
 pub stretch-table : (g : Registers) (video : List ℕ) (y : ℕ) → ByTable (stretchTold g video y) (stretchTable g video y) (stretchOf (settingOf g) y)

@@ -48,7 +48,7 @@ pub of-run : (c : Call) (holds : c .Seen → Type 0) → Every c holds → (run 
 of-run c holds every run r = subst holds (r .is) (every (r .lifetimes) (r .arguments) (r .answer) (r .exit) (r .promise))
 
 -- A list as it is lent.
-lent : List ℕ → RefT (List ℕ)
+unfoldable pub lent : List ℕ → RefT (List ℕ)
 lent l = record { ptr = (0, 0); name = 0; now = l }
 
 -- Asked rightly, there is a run: what is said of every run is not said of none.

@@ -22,6 +22,10 @@ use Rattle.vombelishi.proofs.rasters.vom_raster_words.Kinds as raster-words-kin
 use Rattle.vombelishi.proofs.rasters.vom_raster_words.Reads as raster-words-reads
 use Rattle.vombelishi.proofs.rasters.vom_marks.Kinds as marks-kinds
 use Rattle.vombelishi.proofs.rasters.vom_marks.Reads as marks-reads
+use Rattle.vombelishi.proofs.summaries.vom_summaries.Kinds as summaries-kinds
+use Rattle.vombelishi.proofs.summaries.vom_summaries.Reads as summaries-reads
+use Rattle.vombelishi.proofs.summaries.vom_replace.Kinds as replace-kinds
+use Rattle.vombelishi.proofs.summaries.vom_replace.Reads as replace-reads
 use Rattle.vombelishi.proofs.levels.vom_colour.Kinds as colour-kinds
 use Rattle.vombelishi.proofs.levels.vom_colour.Reads as colour-reads
 use Rattle.vombelishi.proofs.queued.vom_sync_ask.Kinds as sync-ask-kinds
@@ -102,7 +106,7 @@ abbrev pub checkSound : Call
 checkSound = call 2 check-sound-kinds.ps check-sound-kinds.r check-sound-reads.Post CheckSoundRun
     λ κs a x s. record { values = now (a .0); written = now (a .1 .0); answer = codeSays x }
 
--- The frame, one raster of it, where a raster's words stand, the mark count, a pixel's colour.
+-- The frame, one raster of it, where a raster's words stand, the mark count.
 pub record FrameRun : Type 0 where
   pub values : List ℕ
   pub written : List ℕ
@@ -191,6 +195,60 @@ marks = call 5 marks-kinds.ps marks-kinds.r marks-reads.Post MarksRun
       after = now (s .1 .1 .1 .1 .1 .0);
     }
 
+-- Marks per raster made afresh, and kept where one word is replaced.
+pub record SummariesRun : Type 0 where
+  pub values : List ℕ
+  pub written : List ℕ
+  pub video : List ℕ
+  pub cursor : List ℕ
+  pub threshold : ℕ
+  pub answer : Told (Unit {0})
+  pub before : List ℕ
+  pub after : List ℕ
+
+abbrev pub summaries : Call
+summaries = call 5 summaries-kinds.ps summaries-kinds.r summaries-reads.Post SummariesRun
+    λ κs a x s. record {
+      values = now (a .0);
+      written = now (a .1 .0);
+      video = now (a .1 .1 .0);
+      cursor = now (a .1 .1 .1 .0);
+      threshold = a .1 .1 .1 .1 .0;
+      answer = codeSays x;
+      before = now (a .1 .1 .1 .1 .1 .0);
+      after = now (s .1 .1 .1 .1 .1 .0);
+    }
+
+pub record ReplaceRun : Type 0 where
+  pub values : List ℕ
+  pub written : List ℕ
+  pub video : List ℕ
+  pub cursor : List ℕ
+  pub threshold : ℕ
+  pub index : ℕ
+  pub word : ℕ
+  pub answer : Told (Unit {0})
+  pub list : List ℕ
+  pub before : List ℕ
+  pub after : List ℕ
+
+abbrev pub replace : Call
+replace = call 5 replace-kinds.ps replace-kinds.r replace-reads.Post ReplaceRun
+    λ κs a x s. record {
+      values = now (a .0);
+      written = now (a .1 .0);
+      video = now (a .1 .1 .0);
+      cursor = now (a .1 .1 .1 .0);
+      threshold = a .1 .1 .1 .1 .0;
+      index = a .1 .1 .1 .1 .1 .0;
+      word = a .1 .1 .1 .1 .1 .1 .0;
+      answer = codeSays x;
+      list = now (s .1 .1 .0);
+      before = now (a .1 .1 .1 .1 .1 .1 .1 .0);
+      after = now (s .1 .1 .1 .1 .1 .1 .1 .0);
+    }
+
+-- A pixel's colour.
 pub record ColourRun : Type 0 where
   pub values : List ℕ
   pub written : List ℕ

@@ -3,6 +3,7 @@ pub mod Exhibited
 pub mod Calls
 pub mod Views
 pub mod Framed
+pub mod PerRaster
 pub mod RoundTrip
 pub mod Pieces
 pub mod CRows

@@ -25,6 +25,10 @@ use Rattle.frame.proofs.raster.Reads as raster-reads
 use Rattle.marks.specs.Marks.{marksSays}
 use Rattle.marks.proofs.marks.Kinds as marks-kinds
 use Rattle.marks.proofs.marks.Reads as marks-reads
+use Rattle.marks.proofs.summaries.summaries.Kinds as summaries-kinds
+use Rattle.marks.proofs.summaries.summaries.Reads as summaries-reads
+use Rattle.marks.proofs.summaries.replace.Kinds as replace-kinds
+use Rattle.marks.proofs.summaries.replace.Reads as replace-reads
 use Rattle.stretch.specs.Stretch.{foundSays}
 use Rattle.stretch.specs.declared.found.Stretch.{Stretch}
 use Rattle.stretch.proofs.found.find.Kinds as find-kinds
@@ -156,6 +160,55 @@ pub record MarksRun : Type 0 where
 abbrev pub marks : Call
 marks = call 2 marks-kinds.ps marks-kinds.r marks-reads.Post MarksRun
     λ κs a x s. record { registers = a .0; video = now (a .1 .0); cursor = now (a .1 .1 .0); threshold = a .1 .1 .1 .0; answer = marksSays x }
+
+-- Marks per raster made afresh, and kept where one word is replaced: `list` is what the video list holds after it.
+pub record SummariesRun : Type 0 where
+  pub registers : Registers
+  pub video : List ℕ
+  pub cursor : List ℕ
+  pub threshold : ℕ
+  pub answer : Told (Unit {0})
+  pub before : List ℕ
+  pub after : List ℕ
+
+abbrev pub summaries : Call
+summaries = call 3 summaries-kinds.ps summaries-kinds.r summaries-reads.Post SummariesRun
+    λ κs a x s. record {
+      registers = a .0;
+      video = now (a .1 .0);
+      cursor = now (a .1 .1 .0);
+      threshold = a .1 .1 .1 .0;
+      answer = answerSays x;
+      before = now (a .1 .1 .1 .1 .0);
+      after = now (s .1 .1 .1 .1 .0);
+    }
+
+pub record ReplaceRun : Type 0 where
+  pub registers : Registers
+  pub video : List ℕ
+  pub cursor : List ℕ
+  pub threshold : ℕ
+  pub index : ℕ
+  pub word : ℕ
+  pub answer : Told (Unit {0})
+  pub list : List ℕ
+  pub before : List ℕ
+  pub after : List ℕ
+
+abbrev pub replace : Call
+replace = call 3 replace-kinds.ps replace-kinds.r replace-reads.Post ReplaceRun
+    λ κs a x s. record {
+      registers = a .0;
+      video = now (a .1 .0);
+      cursor = now (a .1 .1 .0);
+      threshold = a .1 .1 .1 .0;
+      index = a .1 .1 .1 .1 .0;
+      word = a .1 .1 .1 .1 .1 .0;
+      answer = answerSays x;
+      list = now (s .1 .0);
+      before = now (a .1 .1 .1 .1 .1 .1 .0);
+      after = now (s .1 .1 .1 .1 .1 .1 .0);
+    }
 
 -- A raster's words: where they stand, and the refusal or none.
 pub record StretchRun (A : Type 0) : Type 0 where

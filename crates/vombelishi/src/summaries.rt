@@ -49,7 +49,8 @@ pub extern "C" fn vom_replace(
     entries: &mut [u16],
 ) -> u64
     ensures { λ r. ⌜
-        (r ≡ answerCode (replaceCall (now (values .entry)) (now (written .entry)) (now (video .entry)) (now (cursor .entry)) index (length (now (entries .entry)))))
+        (r ≡ answerCode
+        (replaceCall (now (values .entry)) (now (written .entry)) (now (video .entry)) (now (cursor .entry)) index (length (now (entries .entry)))))
         × (now (video .exit)
         ≡ videoCallLeaves (now (values .entry)) (now (written .entry)) (now (video .entry)) (now (cursor .entry)) index word (length (now (entries .entry))))
         × (now (entries .exit)

@@ -2,6 +2,8 @@
 use mathlib.Core.Path.{sym, _∙_}
 use borrow.Author.Needs.{needs}
 use lib.ListN.{length}
+use Rattle.refusals.specs.Table.{Told}
+use Rattle.registers.specs.declared.record.Registers.{Registers}
 use Rattle.marks.specs.Summaries.{replaceTold, videoLeaves, replaceLeaves}
 use Rattle.vombelishi.specs.Summaries.{replaceCall, videoCallLeaves, replaceCallLeaves}
 use Rattle.vombelishi.proofs.Pictured.{picture-short, picture-by}
@@ -16,12 +18,11 @@ returns : tie.Need-returns
 unfolding replaceCall videoCallLeaves replaceCallLeaves
 returns c =
     let args = c .before .before .before .before .before .before .before .args in
+    let tells : Registers → Told (Unit {0}) = λ g. replaceTold g (args .video .now) (args .cursor .now) (args .index) (length (args .entries .now)) in
     let lacking = sym (c .before .lacks .ensures) ∙ c .if1 .taken in
-    let list = picture-short (args .values .now) (args .written .now) (args .video .now)
-    (λ g. replaceTold g (args .video .now) (args .cursor .now) (args .index) (length (args .entries .now)))
+    let list = picture-short (args .values .now) (args .written .now) (args .video .now) tells
     (λ g. videoLeaves g (args .video .now) (args .cursor .now) (args .index) (args .word) (length (args .entries .now))) lacking in
-    let entries = picture-short (args .values .now) (args .written .now) (args .entries .now)
-    (λ g. replaceTold g (args .video .now) (args .cursor .now) (args .index) (length (args .entries .now)))
+    let entries = picture-short (args .values .now) (args .written .now) (args .entries .now) tells
     (λ g. replaceLeaves g (args .video .now) (args .cursor .now) (args .threshold) (args .index) (args .word) (args .entries .now)) lacking in
     (list .0, list .1, entries .1)
 
@@ -48,13 +49,12 @@ returns-2 c =
     let called = c .before .before .before .before .before in
     let judged = called .before .before .before in
     let args = judged .before .before .before .before .before .before .before .before .args in
+    let tells : Registers → Told (Unit {0}) = λ g. replaceTold g (args .video .now) (args .cursor .now) (args .index) (length (args .entries .now)) in
     let long = sym (judged .before .before .lacks .ensures) ∙ judged .before .if1 .left in
-    let list = picture-by (args .values .now) (args .written .now) (args .video .now)
-    (λ g. replaceTold g (args .video .now) (args .cursor .now) (args .index) (length (args .entries .now)))
+    let list = picture-by (args .values .now) (args .written .now) (args .video .now) tells
     (λ g. videoLeaves g (args .video .now) (args .cursor .now) (args .index) (args .word) (length (args .entries .now))) _ _ _ _
     long (judged .record-of .ensures) (called .replace .ensures .0) (called .replace .ensures .1) (c .answered .ensures) in
-    let entries = picture-by (args .values .now) (args .written .now) (args .entries .now)
-    (λ g. replaceTold g (args .video .now) (args .cursor .now) (args .index) (length (args .entries .now)))
+    let entries = picture-by (args .values .now) (args .written .now) (args .entries .now) tells
     (λ g. replaceLeaves g (args .video .now) (args .cursor .now) (args .threshold) (args .index) (args .word) (args .entries .now)) _ _ _ _
     long (judged .record-of .ensures) (called .replace .ensures .0) (called .replace .ensures .2) (c .answered .ensures) in
     (list .0, list .1, entries .1)
