@@ -27,7 +27,8 @@ pixels-enough (inr (inr (inl e))) = rw e (omega arith)
 pixels-enough (inr (inr (inr e))) = rw e (omega arith)
 
 pub pixels-most : (d : ℕ) → pixelsFor d ≤ 256
-pixels-most d = picked (λ n. n ≤ 256) (eqb d 8) 256 16 (omega arith) (omega arith)
+pixels-most d =
+    picked (λ n. n ≤ 256) (eqb d 8) 256 (pick (eqb d 4) 16 4) (omega arith) (picked (λ n. n ≤ 256) (eqb d 4) 16 4 (omega arith) (omega arith))
 
 pub least-more : {v w : ℕ} (f : ℕ → ℕ) (n : ℕ) → v ≡ leastOf f n → w ≡ f n → smaller v w ≡ leastOf f (n + 1)
 unfolding leastOf

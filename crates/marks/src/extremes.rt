@@ -61,7 +61,7 @@ fn entry_below(greys: &[u8; 256], flags: &[u8; 256], end: usize, count: u32) -> 
     }
 }
 
-// By the flags of all pixels of a depth: two ends that are known beforehand make two loops of whole vectors.
+// By the flags of all pixels of a depth: ends that are known beforehand make loops of whole vectors, or none.
 pub fn entry_of(greys: &[u8; 256], flags: &[u8; 256], depth: u8, count: u32) -> Entry
     requires { ⌜ count ≤ 2048 ⌝ }
     ensures { λ r. ⌜ r ≡ flaggedEntry (now (greys .entry)) (now (flags .entry)) (pixelsFor depth) count ⌝ }
@@ -69,5 +69,8 @@ pub fn entry_of(greys: &[u8; 256], flags: &[u8; 256], depth: u8, count: u32) -> 
     if depth == 8 {
         return entry_below(greys, flags, 256, count);
     }
-    entry_below(greys, flags, 16, count)
+    if depth == 4 {
+        return entry_below(greys, flags, 16, count);
+    }
+    entry_below(greys, flags, 4, count)
 }

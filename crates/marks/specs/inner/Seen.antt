@@ -54,7 +54,7 @@ maskTimes mask q = pick (ltb q 16) (mask / 2 ^ q % 2) 0
 
 -- How many pixels are looked through at a depth: at least as many as there are.
 abbrev pub pixelsFor : ℕ → ℕ
-pixelsFor d = pick (eqb d 8) 256 16
+pixelsFor d = pick (eqb d 8) 256 (pick (eqb d 4) 16 4)
 
 -- The grey of a pixel that is flagged; of any other a number that is said beside it.
 abbrev pub flaggedGrey : List ℕ → List ℕ → ℕ → ℕ → ℕ
