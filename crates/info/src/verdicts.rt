@@ -53,7 +53,7 @@ fn put_wrong_sound(line: Line, address: u32) -> Line {
     line.text(b" is 0")
 }
 
-// The rule of a refusal that says no more; 12 and 13 are of calls that are not made here.
+// The rule of a refusal that says no more; 12, 13 and those from 16 on are of calls that are not made here.
 fn put_plain_rule(line: Line, number: u32) -> Line {
     match number {
         1 => line.text(b"over 1,024 register words"),
