@@ -25,7 +25,7 @@ use Rattle.frame.proofs.Told.{frame-told, raster-told}
 use Rattle.marks.proofs.Told.{marks-told, summaries-told, replace-told}
 use Rattle.stretch.proofs.Told.{stretch-told}
 use Rattle.marks.specs.Marks.{marksOf, marksTold}
-use Rattle.marks.specs.Summaries.{numbers as entryNumbers, numberAt, rasterOf, summariesTable, summariesTold, summariesLeaves}
+use Rattle.marks.specs.Summaries.{entriesLength, entryNumber, rasterOf, summariesTable, summariesTold, summariesLeaves}
 use Rattle.marks.specs.Summaries.{replaceTable, replaceTold, videoLeaves, replaceLeaves}
 use Rattle.stretch.specs.Stretch.{stretchOf, stretchTable, stretchTold}
 use Rattle.sound.specs.Values.{counterAfter}
@@ -234,7 +234,7 @@ vom-summaries-refuses κs a x s p =
     let run : SummariesRun = c.summaries .seen κs a x s in
     let tells : Registers → Told (Unit {0}) = λ g. summariesTold g (run .video) (run .cursor) (length (run .before)) in
     let afresh : Registers → List ℕ = λ g.
-    painted (run .before) 0 (entryNumbers (settingOf g)) (numberAt g (settingOf g) (run .video) (run .cursor) (run .threshold)) in (
+    painted (run .before) 0 (entriesLength (settingOf g)) (entryNumber g (settingOf g) (run .video) (run .cursor) (run .threshold)) in (
       record-code (run .values) (run .written) tells (λ g. summariesTable g (run .video) (run .cursor) (length (run .before))) (λ g. tt)
           (λ g. fits-after (setting-fits g) (plain (omega arith) (plain (omega arith) no-rows)))
           (λ g. summaries-told g (run .video) (run .cursor) (length (run .before))) (p .0),
@@ -252,7 +252,7 @@ vom-replace-refuses κs a x s p =
     let list = set (run .video) (run .index) (run .word) in
     let entry : Registers → List ℕ = λ g.
     painted (run .before) (3 * rasterOf (settingOf g) (run .index)) (3 * rasterOf (settingOf g) (run .index) + 3)
-    (numberAt g (settingOf g) list (run .cursor) (run .threshold)) in (
+    (entryNumber g (settingOf g) list (run .cursor) (run .threshold)) in (
       record-code (run .values) (run .written) tells (λ g. replaceTable g (run .video) (run .cursor) (run .index) (length (run .before))) (λ g. tt)
           (λ g. fits-after (setting-fits g) (plain (omega arith) (plain (omega arith) (plain (omega arith) no-rows))))
           (λ g. replace-told g (run .video) (run .cursor) (run .index) (length (run .before))) (p .0),

@@ -26,12 +26,12 @@ use Rattle.cells.proofs.Pictures.{picture-told, picture-setting}
 use Rattle.cells.proofs.Regions.{plain-five, code-five, cell-code}
 use Rattle.marks.specs.Extremes.{leastOf, greatestOf}
 use Rattle.marks.specs.Marks.{marksOf}
-use Rattle.marks.specs.Summaries.{rasterMarks, leastGrey, greatestGrey, entryOf, numberAt, displayed, numbers}
+use Rattle.marks.specs.Summaries.{rasterMarks, leastGrey, greatestGrey, entryOf, entryNumber, displayedRasters, entriesLength}
 use Rattle.marks.specs.Summaries.{summariesLeaves, replaceTold, videoLeaves, replaceLeaves}
-use Rattle.marks.specs.Series.{Replacement, Kept, keptAfter}
+use Rattle.marks.specs.Series.{Replacement, KeptEntries, keptAfter}
 use Rattle.marks.proofs.Calls.{summaries-given, replace-refused, replace-outside, replace-short, replace-given}
 use Rattle.marks.proofs.Kept.{taken-video, taken-numbers, replaced-entry, earlier-kept, later-kept, series-length, stays-fresh, fresh-sum}
-use Rattle.marks.proofs.Replacing.{raster-displayed}
+use Rattle.marks.proofs.Replacing.{word-displayed}
 use Rattle.marks.proofs.Taken.{given-summaries, summaries-same, replace-taken}
 use Rattle.marks.proofs.Told.{marks-told}
 use Rattle.marks.proofs.Totals.{total-none}
@@ -47,9 +47,9 @@ use Rattle.claims.proofs.Tables.{by-table}
 -- The three numbers of an entry, by their places.
 module _ (g : Registers) (video cursor : List ℕ) (threshold r : ℕ) where
   has-entry : (list : List ℕ)
-      → ((k : ℕ) → 3 * r ≤ k → k < 3 * r + 3 → getD list k 0 ≡ numberAt g (settingOf g) video cursor threshold k)
+      → ((k : ℕ) → 3 * r ≤ k → k < 3 * r + 3 → getD list k 0 ≡ entryNumber g (settingOf g) video cursor threshold k)
       → HasEntry g video cursor threshold r list
-  unfolding numberAt entryOf
+  unfolding entryNumber entryOf
   has-entry list h =
       let zeroth : 3 * r / 3 ≡ r = omega arith in
       let first : (3 * r + 1) / 3 ≡ r = omega arith in
@@ -69,10 +69,10 @@ unfolding summariesLeaves
 each-entry κs a x s p e =
     let run : SummariesRun = call.summaries .seen κs a x s in
     let g = run .registers in
-    let rule : ℕ → ℕ = numberAt g (settingOf g) (run .video) (run .cursor) (run .threshold) in
+    let rule : ℕ → ℕ = entryNumber g (settingOf g) (run .video) (run .cursor) (run .threshold) in
     let told = sym (p .0) ∙ e in
     let room = given-summaries g (run .video) (run .cursor) (length (run .before)) told .1 in
-    let paints : Paints 0 (run .before) (run .after) 0 (numbers (settingOf g)) rule = paints-of room (p .1 ∙ rw told) in
+    let paints : Paints 0 (run .before) (run .after) 0 (entriesLength (settingOf g)) rule = paints-of room (p .1 ∙ rw told) in
     record {
       long = paints .len;
       each = λ r l. has-entry g (run .video) (run .cursor) (run .threshold) r (run .after) (λ k h q. paints .on k (omega arith) (omega arith));
@@ -93,7 +93,7 @@ pub sum-counted : Every call.summaries λ run. Every call.marks λ count. run .a
 sum-counted κs a x s p κs′ a′ x′ s′ p′ e same =
     let run : SummariesRun = call.summaries .seen κs a x s in
     let g = run .registers in
-    let short = row 13 (ltb (length (run .before)) (numbers (settingOf g))) 0 ∷ [] in
+    let short = row 13 (ltb (length (run .before)) (entriesLength (settingOf g))) 0 ∷ [] in
     let picture = passes-first (pictureTable g (run .video) (run .cursor)) short (summaries-refuses κs a x s p .0 .given-when .0 e) in
     p′ ∙ rw (same .registers-are, same .video-is, same .cursor-is, same .threshold-is, entries-sum κs a x s p e)
     (marks-told g (run .video) (run .cursor) (run .threshold) ∙ passes-given _ (pictureTable g (run .video) (run .cursor)) picture)
@@ -130,7 +130,7 @@ module _ (g : Registers) (s : Setting) (video cursor : List ℕ) (y : ℕ) where
       let under = c x (sym (plain-five s a x y) ∙ h .1) in
       no (sym (ap not under) ∙ h .0)
 
-pub covered-entry : Every call.summaries λ run. run .answer ≡ given tt → (r : ℕ) → r < displayed (settingOf (run .registers))
+pub covered-entry : Every call.summaries λ run. run .answer ≡ given tt → (r : ℕ) → r < displayedRasters (settingOf (run .registers))
     → CoveredRaster (run .registers) (run .cursor) r
     → (getD (run .after) (3 * r) 0 ≡ 0) × (getD (run .after) (3 * r + 1) 0 ≡ 255) × (getD (run .after) (3 * r + 2) 0 ≡ 0)
 covered-entry κs a x s p e r l c =
@@ -156,7 +156,7 @@ entry-replaced κs a x s p e =
     λ k. ap (λ (l : List ℕ). getD l k 0) (p .2) in
     record {
       list = list;
-      displays = raster-displayed (settingOf g) (taken .picture .accepted) (run .index) (taken .inside);
+      displays = word-displayed (settingOf g) (taken .picture .accepted) (run .index) (taken .inside);
       long = ap length (p .2 ∙ taken-numbers g (run .video) (run .cursor) (run .threshold) (run .index) (run .word) (run .before) told)
           ∙ length-painted (run .before) _ _ _;
       entry = has-entry g (run .list) (run .cursor) (run .threshold) (rasterIn run) (run .after)
@@ -200,7 +200,7 @@ module _ (g : Registers) (video cursor : List ℕ) (index : ℕ) (before : List 
   outside (given s) e h = (
     e ∙ ap given (picture-setting g video cursor s e),
     elim (lt-or-le index (length video)) [
-      | inl here ↦ elim (lt-or-le (length before) (numbers s)) [
+      | inl here ↦ elim (lt-or-le (length before) (entriesLength s)) [
         | inl short ↦ let told = ap numberTold (replace-short g video cursor 0 before index 0 s e here short .0 ∙ h) in absurd (omega (arith, told))
         | inr room ↦ let told = ap numberTold (sym (replace-given g video cursor 0 before index 0 s e here room) ∙ h) in absurd (omega (arith, told))
       ]
@@ -237,7 +237,7 @@ module _ (g : Registers) (cursor : List ℕ) (threshold : ℕ) (out : List ℕ) 
   unfolding keptAfter
   series-fresh video kept [] c e = (e, refl)
   series-fresh video kept (run ∷ runs) c e =
-      let start : Kept = record { video = video; numbers = kept } in
+      let start : KeptEntries = record { video = video; numbers = kept } in
       let one : List Replacement = record { index = run .index; word = run .word } ∷ [] in
       let left = left-by (c .0) in
       let rest = series-fresh (run .list) (run .after) runs (c .1) (left .1 ∙ rw (left .0) (stays-fresh g cursor threshold out start one e)) in

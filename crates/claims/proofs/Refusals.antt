@@ -21,7 +21,7 @@ use Rattle.frame.proofs.Told.{frame-told, raster-told}
 use Rattle.marks.proofs.Told.{marks-told, summaries-told, replace-told}
 use Rattle.stretch.proofs.Told.{stretch-told}
 use Rattle.marks.specs.Marks.{marksOf}
-use Rattle.marks.specs.Summaries.{numbers as entryNumbers, numberAt, rasterOf, summariesTable, summariesLeaves}
+use Rattle.marks.specs.Summaries.{entriesLength, entryNumber, rasterOf, summariesTable, summariesLeaves}
 use Rattle.marks.specs.Summaries.{replaceTable, videoLeaves, replaceLeaves}
 use Rattle.stretch.specs.Stretch.{stretchOf, stretchTable, stretchTold, answerTold}
 use Rattle.stretch.specs.declared.found.Stretch.{Stretch}
@@ -157,7 +157,7 @@ summaries-refuses κs a x s p =
     let run : SummariesRun = call.summaries .seen κs a x s in
     let g = run .registers in (
       by-table tt _ (p .0 ∙ summaries-told g (run .video) (run .cursor) (length (run .before))),
-      kept (painted (run .before) 0 (entryNumbers (settingOf g)) (numberAt g (settingOf g) (run .video) (run .cursor) (run .threshold))) (p .0) (p .1),
+      kept (painted (run .before) 0 (entriesLength (settingOf g)) (entryNumber g (settingOf g) (run .video) (run .cursor) (run .threshold))) (p .0) (p .1),
     )
 
 pub replace-refuses : Every call.replace λ run.
@@ -171,7 +171,7 @@ replace-refuses κs a x s p =
     let r = rasterOf (settingOf g) (run .index) in (
       by-table tt _ (p .0 ∙ replace-told g (run .video) (run .cursor) (run .index) (length (run .before))),
       kept list (p .0) (p .1),
-      kept (painted (run .before) (3 * r) (3 * r + 3) (numberAt g (settingOf g) list (run .cursor) (run .threshold))) (p .0) (p .2),
+      kept (painted (run .before) (3 * r) (3 * r + 3) (entryNumber g (settingOf g) list (run .cursor) (run .threshold))) (p .0) (p .2),
     )
 
 -- Where a raster's words stand, and of the words themselves the refusal or none.

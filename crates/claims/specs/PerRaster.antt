@@ -11,7 +11,7 @@ use Rattle.registers.specs.declared.record.Registers.{Registers}
 use Rattle.cells.specs.Cell.{inDisplay, covered}
 use Rattle.cells.specs.Picture.{pictureTold}
 use Rattle.marks.specs.Count.{total}
-use Rattle.marks.specs.Summaries.{rasterMarks, leastGrey, greatestGrey, displayed}
+use Rattle.marks.specs.Summaries.{rasterMarks, leastGrey, greatestGrey, displayedRasters}
 use Rattle.claims.specs.Calls.{Ran}
 use Rattle.claims.specs.Views as call
 use Rattle.claims.specs.Views.{MarksRun, SummariesRun, ReplaceRun}
@@ -25,13 +25,13 @@ pub record HasEntry (g : Registers) (video cursor : List ℕ) (threshold r : ℕ
 -- What the lent numbers hold where the entries were made: one for each of the VDE - VDS displayed rasters, and the rest as it was.
 pub record EntriesMade (run : SummariesRun) : Type 0 where
   pub long : length (run .after) ≡ length (run .before)
-  pub each : (r : ℕ) → r < displayed (settingOf (run .registers))
+  pub each : (r : ℕ) → r < displayedRasters (settingOf (run .registers))
       → HasEntry (run .registers) (run .video) (run .cursor) (run .threshold) r (run .after)
-  pub beyond : (k : ℕ) → 3 * displayed (settingOf (run .registers)) ≤ k → getD (run .after) k 0 ≡ getD (run .before) k 0
+  pub beyond : (k : ℕ) → 3 * displayedRasters (settingOf (run .registers)) ≤ k → getD (run .after) k 0 ≡ getD (run .before) k 0
 
 -- The counts of all entries, added up.
 abbrev pub countsIn : Registers → List ℕ → ℕ
-countsIn g numbers = total (λ r. getD numbers (3 * r) 0) (displayed (settingOf g))
+countsIn g numbers = total (λ r. getD numbers (3 * r) 0) (displayedRasters (settingOf g))
 
 -- The two calls were asked of one picture and one threshold.
 pub record SameMarks (run : SummariesRun) (count : MarksRun) : Type 0 where
@@ -53,7 +53,7 @@ rasterIn run = run .index / rasterWords (settingOf (run .registers))
 -- other number as it was.
 pub record WordReplaced (run : ReplaceRun) : Type 0 where
   pub list : run .list ≡ set (run .video) (run .index) (run .word)
-  pub displays : rasterIn run < displayed (settingOf (run .registers))
+  pub displays : rasterIn run < displayedRasters (settingOf (run .registers))
   pub long : length (run .after) ≡ length (run .before)
   pub entry : HasEntry (run .registers) (run .list) (run .cursor) (run .threshold) (rasterIn run) (run .after)
   pub others : (k : ℕ) → k / 3 ≢ rasterIn run → getD (run .after) k 0 ≡ getD (run .before) k 0
@@ -93,4 +93,4 @@ pub record Afresh (first : SummariesRun) (video : List ℕ) (last : SummariesRun
 -- A picture that is not refused, and room for its entries.
 pub record RightEntries (g : Registers) (video cursor before : List ℕ) : Type 0 where
   pub picture : pictureTold g video cursor ≡ given (settingOf g)
-  pub room : 3 * displayed (settingOf g) ≤ length before
+  pub room : 3 * displayedRasters (settingOf g) ≤ length before

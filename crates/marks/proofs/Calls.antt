@@ -13,14 +13,14 @@ use Rattle.registers.specs.declared.record.Registers.{Registers}
 use Rattle.registers.specs.declared.setting.Setting.{Setting}
 use Rattle.cells.specs.Picture.{pictureTold}
 use Rattle.cells.proofs.Pictures.{picture-more, picture-setting}
-use Rattle.marks.specs.Summaries.{numbers, numberAt, rasterOf, summariesTold, summariesLeaves, replaceTold, videoLeaves, replaceLeaves}
+use Rattle.marks.specs.Summaries.{entriesLength, entryNumber, rasterOf, summariesTold, summariesLeaves, replaceTold, videoLeaves, replaceLeaves}
 use Rattle.marks.proofs.Told.{summaries-told, replace-told}
 
 module _ (g : Registers) (video cursor : List ℕ) (threshold : ℕ) (o : List ℕ) where
   summaries-then : summariesTold g video cursor (length o)
-      ≡ andThen (pictureTold g video cursor) (λ s. judged (row 13 (ltb (length o) (numbers (settingOf g))) 0 ∷ []) tt)
+      ≡ andThen (pictureTold g video cursor) (λ s. judged (row 13 (ltb (length o) (entriesLength (settingOf g))) 0 ∷ []) tt)
   summaries-then =
-      summaries-told g video cursor (length o) ∙ picture-more g video cursor tt (row 13 (ltb (length o) (numbers (settingOf g))) 0 ∷ [])
+      summaries-told g video cursor (length o) ∙ picture-more g video cursor tt (row 13 (ltb (length o) (entriesLength (settingOf g))) 0 ∷ [])
 
   -- Told a refusal, the call leaves the numbers as they were.
   pub summaries-untouched : (w : Why) → summariesTold g video cursor (length o) ≡ refused w
@@ -33,22 +33,22 @@ module _ (g : Registers) (video cursor : List ℕ) (threshold : ℕ) (o : List �
   summaries-refused w e = summaries-untouched w (rw (summaries-then, e))
 
   module _ (s : Setting) (e : pictureTold g video cursor ≡ given s) where
-    pub summaries-short : length o < numbers s
+    pub summaries-short : length o < entriesLength s
         → (refused (why 13 0) ≡ summariesTold g video cursor (length o)) × (o ≡ summariesLeaves g video cursor threshold o)
     summaries-short h =
-        summaries-untouched (why 13 0) (rw (summaries-then, e, ← picture-setting g video cursor s e, lt-ltb (length o) (numbers s) h))
+        summaries-untouched (why 13 0) (rw (summaries-then, e, ← picture-setting g video cursor s e, lt-ltb (length o) (entriesLength s) h))
 
-    pub summaries-given : numbers s ≤ length o → summariesTold g video cursor (length o) ≡ given tt
-    summaries-given h = rw (summaries-then, e, ← picture-setting g video cursor s e, le-ltb (length o) (numbers s) h)
+    pub summaries-given : entriesLength s ≤ length o → summariesTold g video cursor (length o) ≡ given tt
+    summaries-given h = rw (summaries-then, e, ← picture-setting g video cursor s e, le-ltb (length o) (entriesLength s) h)
 
-    pub summaries-put : (p : List ℕ) → numbers s ≤ length o → p ≡ painted o 0 (numbers s) (numberAt g s video cursor threshold)
+    pub summaries-put : (p : List ℕ) → entriesLength s ≤ length o → p ≡ painted o 0 (entriesLength s) (entryNumber g s video cursor threshold)
         → (given tt ≡ summariesTold g video cursor (length o)) × (p ≡ summariesLeaves g video cursor threshold o)
     unfolding summariesLeaves
     summaries-put p h q = (sym (summaries-given h), rw (summaries-given h, ← picture-setting g video cursor s e) q)
 
   module _ (index word : ℕ) where
     rest : List Row
-    rest = row 18 (leb (length video) index) 0 ∷ row 13 (ltb (length o) (numbers (settingOf g))) 0 ∷ []
+    rest = row 18 (leb (length video) index) 0 ∷ row 13 (ltb (length o) (entriesLength (settingOf g))) 0 ∷ []
 
     replace-then : replaceTold g video cursor index (length o) ≡ andThen (pictureTold g video cursor) (λ s. judged rest tt)
     unfolding rest
@@ -73,19 +73,19 @@ module _ (g : Registers) (video cursor : List ℕ) (threshold : ℕ) (o : List �
       replace-outside h = replace-untouched (why 18 0) (rw (replace-then, e, le-leb (length video) index h))
 
       module _ (here : index < length video) where
-        pub replace-short : length o < numbers s → Replaced (refused (why 13 0)) video o
+        pub replace-short : length o < entriesLength s → Replaced (refused (why 13 0)) video o
         unfolding rest
         replace-short h =
             replace-untouched (why 13 0)
-            (rw (replace-then, e, lt-leb (length video) index here, ← picture-setting g video cursor s e, lt-ltb (length o) (numbers s) h))
+            (rw (replace-then, e, lt-leb (length video) index here, ← picture-setting g video cursor s e, lt-ltb (length o) (entriesLength s) h))
 
-        pub replace-given : numbers s ≤ length o → replaceTold g video cursor index (length o) ≡ given tt
+        pub replace-given : entriesLength s ≤ length o → replaceTold g video cursor index (length o) ≡ given tt
         unfolding rest
         replace-given h =
-            rw (replace-then, e, lt-leb (length video) index here, ← picture-setting g video cursor s e, le-ltb (length o) (numbers s) h)
+            rw (replace-then, e, lt-leb (length video) index here, ← picture-setting g video cursor s e, le-ltb (length o) (entriesLength s) h)
 
-        pub replace-put : (p : List ℕ) → numbers s ≤ length o
-            → p ≡ painted o (3 * rasterOf s index) (3 * rasterOf s index + 3) (numberAt g s (set video index word) cursor threshold)
+        pub replace-put : (p : List ℕ) → entriesLength s ≤ length o
+            → p ≡ painted o (3 * rasterOf s index) (3 * rasterOf s index + 3) (entryNumber g s (set video index word) cursor threshold)
             → Replaced (given tt) (set video index word) p
         unfolding videoLeaves replaceLeaves
         replace-put p h q =

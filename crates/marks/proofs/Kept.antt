@@ -12,11 +12,12 @@ use Rattle.registers.specs.Setting.{settingOf}
 use Rattle.registers.specs.declared.record.Registers.{Registers}
 use Rattle.marks.specs.Count.{total}
 use Rattle.marks.specs.Marks.{marksOf}
-use Rattle.marks.specs.Summaries.{displayed, numberAt, numbers, summariesTold, summariesLeaves, replaceTold, videoLeaves, rasterOf, replaceLeaves}
-use Rattle.marks.specs.Series.{Replacement, Kept, keptFresh, keptOnce, keptAfter}
+use Rattle.marks.specs.Summaries.{displayedRasters, entryNumber, entriesLength, rasterOf}
+use Rattle.marks.specs.Summaries.{summariesTold, summariesLeaves, replaceTold, videoLeaves, replaceLeaves}
+use Rattle.marks.specs.Series.{Replacement, KeptEntries, keptFresh, keptOnce, keptAfter}
 use Rattle.marks.proofs.Totals.{total-as}
 use Rattle.marks.proofs.Sums.{numbers-sum}
-use Rattle.marks.proofs.Replacing.{raster-displayed, repainted}
+use Rattle.marks.proofs.Replacing.{word-displayed, repainted}
 use Rattle.marks.proofs.Calls.{summaries-given}
 use Rattle.marks.proofs.Taken.{Taken, given-summaries, summaries-same, replace-taken}
 
@@ -34,7 +35,7 @@ module _ (g : Registers) (video cursor : List ℕ) (threshold index w : ℕ) (ou
 
     pub taken-numbers : replaceLeaves g video cursor threshold index w out
         ≡ painted out (3 * rasterOf (settingOf g) index) (3 * rasterOf (settingOf g) index + 3)
-        (numberAt g (settingOf g) (set video index w) cursor threshold)
+        (entryNumber g (settingOf g) (set video index w) cursor threshold)
     unfolding replaceLeaves
     taken-numbers = rw e
 
@@ -42,14 +43,14 @@ module _ (g : Registers) (video cursor : List ℕ) (threshold index w : ℕ) (ou
     taken = replace-taken g video cursor index (length out) e
 
     paints : Paints 0 out (replaceLeaves g video cursor threshold index w out) (3 * rasterOf (settingOf g) index)
-        (3 * rasterOf (settingOf g) index + 3) (numberAt g (settingOf g) (set video index w) cursor threshold)
+        (3 * rasterOf (settingOf g) index + 3) (entryNumber g (settingOf g) (set video index w) cursor threshold)
     paints =
-        let shown = raster-displayed (settingOf g) (taken .picture .accepted) index (taken .inside) in
-        paints-of {f = numberAt g (settingOf g) (set video index w) cursor threshold} (omega (arith, taken .fits)) taken-numbers
+        let shown = word-displayed (settingOf g) (taken .picture .accepted) index (taken .inside) in
+        paints-of {f = entryNumber g (settingOf g) (set video index w) cursor threshold} (omega (arith, taken .fits)) taken-numbers
 
     -- The entry of the word's raster is made afresh from the new list, whatever was kept,
     pub replaced-entry : (k : ℕ) → 3 * rasterOf (settingOf g) index ≤ k → k < 3 * rasterOf (settingOf g) index + 3
-        → getD (replaceLeaves g video cursor threshold index w out) k 0 ≡ numberAt g (settingOf g) (set video index w) cursor threshold k
+        → getD (replaceLeaves g video cursor threshold index w out) k 0 ≡ entryNumber g (settingOf g) (set video index w) cursor threshold k
     replaced-entry k p q = paints .on k p q
 
     -- and every other number is what it was, before it and after it.
@@ -70,7 +71,7 @@ video-length g video cursor index w room = go (replaceTold g video cursor index 
     go (given u) = length-set video index w
     go (refused why) = refl
 
-pub series-length : (g : Registers) (cursor : List ℕ) (threshold : ℕ) (kept : Kept) (rs : List Replacement)
+pub series-length : (g : Registers) (cursor : List ℕ) (threshold : ℕ) (kept : KeptEntries) (rs : List Replacement)
     → length (keptAfter g cursor threshold kept rs .video) ≡ length (kept .video)
 unfolding keptAfter
 series-length g cursor threshold kept [] = refl
@@ -84,14 +85,14 @@ module _ (g : Registers) (cursor : List ℕ) (threshold : ℕ) (out : List ℕ) 
   fresh-length video = go (summariesTold g video cursor (length out))
     where
       rule : ℕ → ℕ
-      rule = numberAt g (settingOf g) video cursor threshold
+      rule = entryNumber g (settingOf g) video cursor threshold
 
-      go : (t : Told (Unit {0})) → length (unlessRefused t out (painted out 0 (numbers (settingOf g)) rule)) ≡ length out
-      go (given u) = length-painted out 0 (numbers (settingOf g)) rule
+      go : (t : Told (Unit {0})) → length (unlessRefused t out (painted out 0 (entriesLength (settingOf g)) rule)) ≡ length out
+      go (given u) = length-painted out 0 (entriesLength (settingOf g)) rule
       go (refused why) = refl
 
   fresh-held : (video : List ℕ) → summariesTold g video cursor (length out) ≡ given tt
-      → summariesLeaves g video cursor threshold out ≡ painted out 0 (numbers (settingOf g)) (numberAt g (settingOf g) video cursor threshold)
+      → summariesLeaves g video cursor threshold out ≡ painted out 0 (entriesLength (settingOf g)) (entryNumber g (settingOf g) video cursor threshold)
   unfolding summariesLeaves
   fresh-held video e = rw e
 
@@ -107,7 +108,7 @@ module _ (g : Registers) (cursor : List ℕ) (threshold : ℕ) (out : List ℕ) 
         let s = settingOf g in
         let kept = summariesLeaves g video cursor threshold out in
         let t = replace-taken g video cursor index (length kept) e in
-        let room : numbers s ≤ length out = omega (arith, t .fits, fresh-length video) in
+        let room : entriesLength s ≤ length out = omega (arith, t .fits, fresh-length video) in
         let old = summaries-given g video cursor threshold out (settingOf g) (t .told) room in
         taken-numbers g video cursor threshold index w kept e
         ∙ rw (fresh-held video old)
@@ -116,7 +117,7 @@ module _ (g : Registers) (cursor : List ℕ) (threshold : ℕ) (out : List ℕ) 
         ∙ ap (λ v. summariesLeaves g v cursor threshold out) (sym (taken-video g video cursor threshold index w kept e))
 
   -- So it is after a series, from any numbers that are those of their list.
-  pub stays-fresh : (kept : Kept) (rs : List Replacement) → kept .numbers ≡ summariesLeaves g (kept .video) cursor threshold out
+  pub stays-fresh : (kept : KeptEntries) (rs : List Replacement) → kept .numbers ≡ summariesLeaves g (kept .video) cursor threshold out
       → keptAfter g cursor threshold kept rs .numbers ≡ summariesLeaves g (keptAfter g cursor threshold kept rs .video) cursor threshold out
   unfolding keptAfter
   stays-fresh kept [] e = e
@@ -130,18 +131,18 @@ module _ (g : Registers) (cursor : List ℕ) (threshold : ℕ) (out : List ℕ) 
 
   -- The counts made afresh sum to the mark count, and so do those kept, to that of the list as it then is.
   pub fresh-sum : (video : List ℕ) → summariesTold g video cursor (length out) ≡ given tt
-      → total (λ r. getD (summariesLeaves g video cursor threshold out) (3 * r) 0) (displayed (settingOf g))
+      → total (λ r. getD (summariesLeaves g video cursor threshold out) (3 * r) 0) (displayedRasters (settingOf g))
       ≡ marksOf g (settingOf g) video cursor threshold
   fresh-sum video e =
       let s = settingOf g in
       let h = given-summaries g video cursor (length out) e in
-      let rule = numberAt g s video cursor threshold in
-      total-as (λ r. getD (summariesLeaves g video cursor threshold out) (3 * r) 0) (λ r. rule (3 * r)) (displayed s)
+      let rule = entryNumber g s video cursor threshold in
+      total-as (λ r. getD (summariesLeaves g video cursor threshold out) (3 * r) 0) (λ r. rule (3 * r)) (displayedRasters s)
       (λ r l. paints-of {d = 0} {l = out} {f = rule} (h .1) (fresh-held video e) .on (3 * r) (omega arith) (omega arith))
       ∙ numbers-sum g s (h .0 .accepted) video cursor threshold
 
   pub kept-sum : (video : List ℕ) (rs : List Replacement) → summariesTold g video cursor (length out) ≡ given tt
-      → total (λ r. getD (keptAfter g cursor threshold (keptFresh g cursor threshold out video) rs .numbers) (3 * r) 0) (displayed (settingOf g))
+      → total (λ r. getD (keptAfter g cursor threshold (keptFresh g cursor threshold out video) rs .numbers) (3 * r) 0) (displayedRasters (settingOf g))
       ≡ marksOf g (settingOf g) (keptAfter g cursor threshold (keptFresh g cursor threshold out video) rs .video) cursor threshold
   kept-sum video rs e =
       let start = keptFresh g cursor threshold out video in

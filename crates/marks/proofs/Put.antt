@@ -9,7 +9,7 @@ use Rattle.buffers.proofs.Paints.{Paints, paints-of, paints-painted, paint-none
 use Rattle.registers.specs.declared.record.Registers.{Registers}
 use Rattle.registers.specs.declared.setting.Setting.{Setting}
 use Rattle.registers.specs.inner.Accepted.{Accepted}
-use Rattle.marks.specs.Summaries.{numberOf, displayed, numbers, numberAt}
+use Rattle.marks.specs.Summaries.{numberOf, displayedRasters, entriesLength, entryNumber}
 use Rattle.marks.specs.inner.Bright.{Tabled, bright}
 use Rattle.marks.specs.inner.Shown.{greyAt, entryBy, numberBy}
 use Rattle.marks.specs.declared.entry.Entry.{Entry}
@@ -50,22 +50,22 @@ number-by greys pixels s video cursor e r k h q = rw (q, h)
 -- By tables that hold what they should, all numbers of displayed rasters are those of the cells.
 module _ (g : Registers) (s : Setting) (video cursor : List ℕ) (threshold : ℕ) (greys pixels : List ℕ) (a : Accepted s)
     (t : Tabled greys 256 (greyAt g (s .depth))) (u : Tabled pixels 256 (bright g (s .depth) threshold)) where
-  pub number-at : (k : ℕ) → k / 3 < displayed s → numberBy greys pixels s video cursor k ≡ numberAt g s video cursor threshold k
-  unfolding numberBy numberAt
+  pub number-at : (k : ℕ) → k / 3 < displayedRasters s → numberBy greys pixels s video cursor k ≡ entryNumber g s video cursor threshold k
+  unfolding numberBy entryNumber
   number-at k l =
       ap (λ e. numberOf e (k % 3))
       (entry-by g s video cursor a (s .vds .0 + k / 3) (omega arith) (omega arith) greys t threshold pixels u)
 
-  pub all-put : {m : List ℕ} (out : List ℕ) → numbers s ≤ length out → m ≡ painted out 0 (numbers s) (numberBy greys pixels s video cursor)
-      → m ≡ painted out 0 (numbers s) (numberAt g s video cursor threshold)
-  all-put out l e = paints-painted {d = 0} l (paint-as (numberAt g s video cursor threshold) (λ k p q. number-at k (omega arith)) (paints-of l e))
+  pub all-put : {m : List ℕ} (out : List ℕ) → entriesLength s ≤ length out → m ≡ painted out 0 (entriesLength s) (numberBy greys pixels s video cursor)
+      → m ≡ painted out 0 (entriesLength s) (entryNumber g s video cursor threshold)
+  all-put out l e = paints-painted {d = 0} l (paint-as (entryNumber g s video cursor threshold) (λ k p q. number-at k (omega arith)) (paints-of l e))
 
   -- One raster's.
-  pub one-put : {m : List ℕ} (out : List ℕ) (e : Entry) (r : ℕ) → r < displayed s → numbers s ≤ length out
+  pub one-put : {m : List ℕ} (out : List ℕ) (e : Entry) (r : ℕ) → r < displayedRasters s → entriesLength s ≤ length out
       → e ≡ entryBy greys pixels s video cursor (s .vds .0 + r) → m ≡ painted out (3 * r) (3 * r + 3) (entryRule e)
-      → m ≡ painted out (3 * r) (3 * r + 3) (numberAt g s video cursor threshold)
+      → m ≡ painted out (3 * r) (3 * r + 3) (entryNumber g s video cursor threshold)
   one-put out e r here l h q =
       let fits : 3 * r + 3 ≤ length out = omega arith in
       paints-painted {d = 0} fits
-      (paint-as (numberAt g s video cursor threshold)
+      (paint-as (entryNumber g s video cursor threshold)
       (λ k p n. let at : k / 3 ≡ r = omega arith in number-by greys pixels s video cursor e r k at h ∙ number-at k (rw at here)) (paints-of fits q))

@@ -23,7 +23,7 @@ use Rattle.marks.specs.Count.{countBelow}
 use Rattle.marks.specs.Extremes.{leastOf, greatestOf}
 use Rattle.marks.specs.Marks.{isMark}
 use Rattle.marks.specs.declared.entry.Entry.{Entry}
-use Rattle.marks.specs.Summaries.{greyOr, rasterMarks, leastGrey, greatestGrey, entryOf, numberAt, displayed, numbers, rasterOf}
+use Rattle.marks.specs.Summaries.{greyOr, rasterMarks, leastGrey, greatestGrey, entryOf, entryNumber, displayedRasters, entriesLength, rasterOf}
 
 pub raster-some : (s : Setting) → Accepted s → 0 < rasterWords s
 raster-some s a = omega (arith, bits-room s a {p = 0} (omega (arith, a .ds-de)))
@@ -35,12 +35,12 @@ replaced-picture s video cursor index word p =
 
 module _ (s : Setting) (a : Accepted s) (index : ℕ) where
   -- A word of the frame belongs to a displayed raster.
-  raster-by : (on : Bool) → displayOn s ≡ on → index < videoWords s → rasterOf s index < displayed s
+  raster-by : (on : Bool) → displayOn s ≡ on → index < videoWords s → rasterOf s index < displayedRasters s
   raster-by true on h = div-lt-iff-lt-mul (raster-some s a) .1 (omega (arith, video-rasters s a on))
   raster-by false off h = absurd (omega (arith, video-off s off))
 
-  pub raster-displayed : index < videoWords s → rasterOf s index < displayed s
-  raster-displayed h = raster-by (displayOn s) refl h
+  pub word-displayed : index < videoWords s → rasterOf s index < displayedRasters s
+  word-displayed h = raster-by (displayOn s) refl h
 
   module _ (g : Registers) (video cursor : List ℕ) (threshold w : ℕ) where
     -- Every other raster's entry is what it was, and so is each of its numbers.
@@ -57,22 +57,22 @@ module _ (s : Setting) (a : Accepted s) (index : ℕ) where
         ap made (fun-ext (λ x. raster-replaced s a x y g video cursor index w (λ i. h)))
 
     pub number-replaced : (k : ℕ) → rasterOf s index ≢ k / 3
-        → numberAt g s (set video index w) cursor threshold k ≡ numberAt g s video cursor threshold k
-    unfolding numberAt
+        → entryNumber g s (set video index w) cursor threshold k ≡ entryNumber g s video cursor threshold k
+    unfolding entryNumber
     number-replaced k h = rw (entry-replaced (s .vds .0 + k / 3) (λ e. h (e ∙ add-sub-cancel-left (s .vds .0) (k / 3))))
 
     -- The numbers of the old list, repainted where the word's raster has its own.
-    pub repainted : (out : List ℕ) → index < videoWords s → numbers s ≤ length out
-        → painted (painted out 0 (numbers s) (numberAt g s video cursor threshold)) (3 * rasterOf s index) (3 * rasterOf s index + 3)
-        (numberAt g s (set video index w) cursor threshold)
-        ≡ painted out 0 (numbers s) (numberAt g s (set video index w) cursor threshold)
+    pub repainted : (out : List ℕ) → index < videoWords s → entriesLength s ≤ length out
+        → painted (painted out 0 (entriesLength s) (entryNumber g s video cursor threshold)) (3 * rasterOf s index) (3 * rasterOf s index + 3)
+        (entryNumber g s (set video index w) cursor threshold)
+        ≡ painted out 0 (entriesLength s) (entryNumber g s (set video index w) cursor threshold)
     repainted out h room =
         let r = rasterOf s index in
-        let old = numberAt g s video cursor threshold in
-        let new = numberAt g s (set video index w) cursor threshold in
-        let fits : 3 * r + 3 ≤ numbers s = omega (arith, raster-displayed h) in
+        let old = entryNumber g s video cursor threshold in
+        let new = entryNumber g s (set video index w) cursor threshold in
+        let fits : 3 * r + 3 ≤ entriesLength s = omega (arith, word-displayed h) in
         paints-painted {d = 0} {f = new} room
         (paint-within new (omega arith) fits
         (λ k p q. sym (number-replaced k (λ e. omega arith))) (λ k p q. refl) (λ k p q. sym (number-replaced k (λ e. omega arith)))
         (paints-of {d = 0} {f = old} room refl)
-        (paints-of {d = 0} {f = new} (rw (length-painted out 0 (numbers s) old) (omega arith)) refl))
+        (paints-of {d = 0} {f = new} (rw (length-painted out 0 (entriesLength s) old) (omega arith)) refl))

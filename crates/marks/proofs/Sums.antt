@@ -13,15 +13,15 @@ use Rattle.cells.specs.inner.Region.{InDisplay}
 use Rattle.cells.proofs.Regions.{display-inside, display-on, plain-five, code-five}
 use Rattle.marks.specs.Count.{total}
 use Rattle.marks.specs.Marks.{marksOf}
-use Rattle.marks.specs.Summaries.{rasterMarks, entryOf, displayed, numberAt}
+use Rattle.marks.specs.Summaries.{rasterMarks, entryOf, displayedRasters, entryNumber}
 use Rattle.marks.proofs.Totals.{total-as, total-none, total-window}
 use Rattle.marks.proofs.Points.{markIn, mark-other}
 use Rattle.marks.proofs.Rows.{marks-rows}
 
 -- The first number of an entry is its raster's count.
 pub number-count : (g : Registers) (s : Setting) (video cursor : List ℕ) (threshold r : ℕ)
-    → numberAt g s video cursor threshold (3 * r) ≡ rasterMarks g s video cursor threshold (s .vds .0 + r)
-unfolding numberAt entryOf
+    → entryNumber g s video cursor threshold (3 * r) ≡ rasterMarks g s video cursor threshold (s .vds .0 + r)
+unfolding entryNumber entryOf
 number-count g s video cursor threshold r =
     let at : 3 * r / 3 ≡ r = omega arith in
     let first : 3 * r % 3 ≡ 0 = omega arith in
@@ -38,16 +38,16 @@ module _ (g : Registers) (s : Setting) (a : Accepted s) (video cursor : List ℕ
   unfolding rasterMarks
   raster-none y h = total-none (markIn g s video cursor threshold y) (s .n .0) (λ x l. mark-none y x (h x))
 
-  pub rasters-sum : total (λ r. rasterMarks g s video cursor threshold (s .vds .0 + r)) (displayed s) ≡ marksOf g s video cursor threshold
+  pub rasters-sum : total (λ r. rasterMarks g s video cursor threshold (s .vds .0 + r)) (displayedRasters s) ≡ marksOf g s video cursor threshold
   unfolding rasterMarks
   rasters-sum =
       sym (marks-rows g s video cursor threshold
-      ∙ total-window (rasterMarks g s video cursor threshold) (s .vds .0) (displayed s) (s .v .0)
+      ∙ total-window (rasterMarks g s video cursor threshold) (s .vds .0) (displayedRasters s) (s .v .0)
       (record { low = λ y l. raster-none y (λ x d. omega arith); high = λ y l. raster-none y (λ x d. omega arith) })
       (λ y l. raster-none y (λ x d. omega (arith, a .display (display-on s x y d)))))
 
-  pub numbers-sum : total (λ r. numberAt g s video cursor threshold (3 * r)) (displayed s) ≡ marksOf g s video cursor threshold
+  pub numbers-sum : total (λ r. entryNumber g s video cursor threshold (3 * r)) (displayedRasters s) ≡ marksOf g s video cursor threshold
   numbers-sum =
-      total-as (λ r. numberAt g s video cursor threshold (3 * r)) (λ r. rasterMarks g s video cursor threshold (s .vds .0 + r)) (displayed s)
+      total-as (λ r. entryNumber g s video cursor threshold (3 * r)) (λ r. rasterMarks g s video cursor threshold (s .vds .0 + r)) (displayedRasters s)
       (λ r l. number-count g s video cursor threshold r)
       ∙ rasters-sum

@@ -16,7 +16,7 @@ use Rattle.registers.proofs.Accepted.{video-off}
 use Rattle.cells.specs.Picture.{pictureTable, pictureTold}
 use Rattle.cells.specs.inner.Known.{Picture}
 use Rattle.cells.proofs.Pictures.{picture-told, given-picture}
-use Rattle.marks.specs.Summaries.{numbers, summariesTable, summariesTold, replaceTable, replaceTold}
+use Rattle.marks.specs.Summaries.{entriesLength, summariesTable, summariesTold, replaceTable, replaceTold}
 use Rattle.marks.proofs.Calls.{replace-outside}
 
 -- What a replacement that is not refused has.
@@ -24,7 +24,7 @@ pub record Taken (g : Registers) (video cursor : List ℕ) (index room : ℕ) : 
   pub told : pictureTold g video cursor ≡ given (settingOf g)
   pub picture : Picture (settingOf g) video cursor
   pub inside : index < videoWords (settingOf g)
-  pub fits : numbers (settingOf g) ≤ room
+  pub fits : entriesLength (settingOf g) ≤ room
 
 module _ (g : Registers) (video cursor : List ℕ) where
   -- A table that is passed behind the picture's.
@@ -32,13 +32,13 @@ module _ (g : Registers) (video cursor : List ℕ) where
   picture-passed more p =
       picture-told g video cursor ∙ passes-given (settingOf g) (pictureTable g video cursor) (passes-first (pictureTable g video cursor) more p)
 
-  pub given-summaries : (room : ℕ) → summariesTold g video cursor room ≡ given tt → Picture (settingOf g) video cursor × (numbers (settingOf g) ≤ room)
+  pub given-summaries : (room : ℕ) → summariesTold g video cursor room ≡ given tt → Picture (settingOf g) video cursor × (entriesLength (settingOf g) ≤ room)
   unfolding summariesTold
   given-summaries room e =
-      let short = row 13 (ltb room (numbers (settingOf g))) 0 ∷ [] in
+      let short = row 13 (ltb room (entriesLength (settingOf g))) 0 ∷ [] in
       let all = given-passes tt (summariesTable g video cursor room) tt e .0 in (
         given-picture g video cursor (settingOf g) (picture-passed short all),
-        ltb-false room (numbers (settingOf g)) (passes-second (pictureTable g video cursor) short all .0),
+        ltb-false room (entriesLength (settingOf g)) (passes-second (pictureTable g video cursor) short all .0),
       )
 
   -- Of the list only its length counts.
@@ -49,7 +49,7 @@ module _ (g : Registers) (video cursor : List ℕ) where
   pub replace-taken : (index room : ℕ) → replaceTold g video cursor index room ≡ given tt → Taken g video cursor index room
   unfolding replaceTold
   replace-taken index room e =
-      let rest = row 18 (leb (length video) index) 0 ∷ row 13 (ltb room (numbers (settingOf g))) 0 ∷ [] in
+      let rest = row 18 (leb (length video) index) 0 ∷ row 13 (ltb room (entriesLength (settingOf g))) 0 ∷ [] in
       let all = given-passes tt (replaceTable g video cursor index room) tt e .0 in
       let more = passes-second (pictureTable g video cursor) rest all in
       let shown = picture-passed rest all in
@@ -58,7 +58,7 @@ module _ (g : Registers) (video cursor : List ℕ) where
         told = shown;
         picture = known;
         inside = omega (arith, leb-false (length video) index (more .0), known .video-words);
-        fits = ltb-false room (numbers (settingOf g)) (more .1 .0);
+        fits = ltb-false room (entriesLength (settingOf g)) (more .1 .0);
       }
 
   -- Where there is no word, every index is outside the list.

@@ -25,14 +25,14 @@ abbrev pub greyOr : ℕ → ℕ → ℕ
 greyOr none cell = pick (eqb (cellCode cell) 5) (greyOf (cellColour cell)) none
 
 -- Over the N cells of raster y: how many are marks, the least and the greatest grey.
-abbrev pub markIn : Registers → Setting → List ℕ → List ℕ → ℕ → ℕ → ℕ → Bool
-markIn g s video cursor threshold y x = isMark threshold (cell g s video cursor x y)
+abbrev pub isMarkIn : Registers → Setting → List ℕ → List ℕ → ℕ → ℕ → ℕ → Bool
+isMarkIn g s video cursor threshold y x = isMark threshold (cell g s video cursor x y)
 
 abbrev pub greyIn : Registers → Setting → List ℕ → List ℕ → ℕ → ℕ → ℕ → ℕ
 greyIn g s video cursor none y x = greyOr none (cell g s video cursor x y)
 
 unfoldable pub rasterMarks : Registers → Setting → List ℕ → List ℕ → ℕ → ℕ → ℕ
-rasterMarks g s video cursor threshold y = countBelow (markIn g s video cursor threshold y) (s .n .0)
+rasterMarks g s video cursor threshold y = countBelow (isMarkIn g s video cursor threshold y) (s .n .0)
 
 unfoldable pub leastGrey : Registers → Setting → List ℕ → List ℕ → ℕ → ℕ
 leastGrey g s video cursor y = leastOf (greyIn g s video cursor 255 y) (s .n .0)
@@ -53,18 +53,18 @@ abbrev pub numberOf : Entry → ℕ → ℕ
 numberOf e j = pick (eqb j 0) (e .count) (pick (eqb j 1) (e .least) (e .greatest))
 
 -- Rasters VDS to VDE-1 are displayed, none where the display is off; each has three numbers, one entry after another.
-abbrev pub displayed : Setting → ℕ
-displayed s = s .vde .0 - s .vds .0
+abbrev pub displayedRasters : Setting → ℕ
+displayedRasters s = s .vde .0 - s .vds .0
 
-abbrev pub numbers : Setting → ℕ
-numbers s = 3 * displayed s
+abbrev pub entriesLength : Setting → ℕ
+entriesLength s = 3 * displayedRasters s
 
-unfoldable pub numberAt : Registers → Setting → List ℕ → List ℕ → ℕ → ℕ → ℕ
-numberAt g s video cursor threshold k = numberOf (entryOf g s video cursor threshold (s .vds .0 + k / 3)) (k % 3)
+unfoldable pub entryNumber : Registers → Setting → List ℕ → List ℕ → ℕ → ℕ → ℕ
+entryNumber g s video cursor threshold k = numberOf (entryOf g s video cursor threshold (s .vds .0 + k / 3)) (k % 3)
 
 -- Made afresh. Refusals: the picture's, then 13.
 abbrev pub summariesTable : Registers → List ℕ → List ℕ → ℕ → List Row
-summariesTable g video cursor room = pictureTable g video cursor ++ (row 13 (ltb room (numbers (settingOf g))) 0 ∷ [])
+summariesTable g video cursor room = pictureTable g video cursor ++ (row 13 (ltb room (entriesLength (settingOf g))) 0 ∷ [])
 
 unfoldable pub summariesTold : Registers → List ℕ → List ℕ → ℕ → Told (Unit {0})
 summariesTold g video cursor room = judged (summariesTable g video cursor room) tt
@@ -73,14 +73,14 @@ summariesTold g video cursor room = judged (summariesTable g video cursor room) 
 unfoldable pub summariesLeaves : Registers → List ℕ → List ℕ → ℕ → List ℕ → List ℕ
 summariesLeaves g video cursor threshold out =
     unlessRefused (summariesTold g video cursor (length out)) out
-    (painted out 0 (numbers (settingOf g)) (numberAt g (settingOf g) video cursor threshold))
+    (painted out 0 (entriesLength (settingOf g)) (entryNumber g (settingOf g) video cursor threshold))
 
 -- One word replaced. Refusals: the picture's, 18 for an index outside the list, 13.
 abbrev pub replaceTable : Registers → List ℕ → List ℕ → ℕ → ℕ → List Row
 replaceTable g video cursor index room =
     pictureTable g video cursor
     ++ (row 18 (leb (length video) index) 0
-    ∷ row 13 (ltb room (numbers (settingOf g))) 0
+    ∷ row 13 (ltb room (entriesLength (settingOf g))) 0
     ∷ [])
 
 unfoldable pub replaceTold : Registers → List ℕ → List ℕ → ℕ → ℕ → Told (Unit {0})
@@ -99,4 +99,4 @@ unfoldable pub replaceLeaves : Registers → List ℕ → List ℕ → ℕ → �
 replaceLeaves g video cursor threshold index word out =
     unlessRefused (replaceTold g video cursor index (length out)) out
     (painted out (3 * rasterOf (settingOf g) index) (3 * rasterOf (settingOf g) index + 3)
-    (numberAt g (settingOf g) (set video index word) cursor threshold))
+    (entryNumber g (settingOf g) (set video index word) cursor threshold))

@@ -7,8 +7,8 @@ ghost use Prim.Native.Nat.{_+_, _*_, _%_, _≤_};
 ghost use lib.ListN.{length};
 ghost use Rattle.buffers.specs.Painted.{painted};
 ghost use Rattle.cells.specs.inner.Known.{Picture};
-ghost use Rattle.marks.specs.Summaries.{numberOf, displayed};
-ghost use Rattle.marks.specs.inner.Shown.{numberBy, Tables};
+ghost use Rattle.marks.specs.Summaries.{numberOf, displayedRasters};
+ghost use Rattle.marks.specs.inner.Shown.{numberBy, RasterTables};
 
 // Entry r.
 pub fn put_entry(out: &mut [u16], r: usize, entry: Entry)
@@ -32,8 +32,8 @@ pub fn put_entries(
     rasters: usize,
     out: &mut [u16],
 )
-    requires { ⌜ Picture s (now video) (now cursor) × Tables (now pixels) (now bytes) (now masks) (s .depth)
-        × (rasters ≡ displayed s) × (3 * rasters ≤ length (now out)) ⌝ }
+    requires { ⌜ Picture s (now video) (now cursor) × RasterTables (now pixels) (now bytes) (now masks) (s .depth)
+        × (rasters ≡ displayedRasters s) × (3 * rasters ≤ length (now out)) ⌝ }
     ensures { λ _. ⌜ now (out .exit)
         ≡ painted (now (out .entry)) 0 (3 * rasters) (numberBy (now (greys .entry)) (now (pixels .entry)) s (now (video .entry)) (now (cursor .entry))) ⌝ }
 {

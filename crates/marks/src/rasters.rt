@@ -12,7 +12,7 @@ ghost use Rattle.registers.specs.Setting.{rasterWords};
 ghost use Rattle.registers.specs.inner.Accepted.{Accepted};
 ghost use Rattle.cells.specs.inner.Known.{Picture};
 ghost use Rattle.marks.specs.inner.Bright.{AtMost};
-ghost use Rattle.marks.specs.inner.Shown.{entryBy, Tables};
+ghost use Rattle.marks.specs.inner.Shown.{entryBy, RasterTables};
 
 // The words of a displayed raster.
 pub fn raster_words(s: Setting) -> usize
@@ -52,7 +52,7 @@ pub fn by_words(
     masks: &[u32; 256],
     r: usize,
 ) -> Entry
-    requires { ⌜ Picture s (now video) (now cursor) × (r < s .vde .0 - s .vds .0) × Tables (now pixels) (now bytes) (now masks) (s .depth) ⌝ }
+    requires { ⌜ Picture s (now video) (now cursor) × (r < s .vde .0 - s .vds .0) × RasterTables (now pixels) (now bytes) (now masks) (s .depth) ⌝ }
     ensures { λ e. ⌜ e ≡ entryBy (now (greys .entry)) (now (pixels .entry)) s (now (video .entry)) (now (cursor .entry)) (s .vds .0 + r) ⌝ }
 {
     let y = Rasters(s.vds.0 + r as u16);

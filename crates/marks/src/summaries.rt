@@ -18,11 +18,11 @@ ghost use lib.ListN.{length};
 ghost use Rattle.refusals.specs.Table.{given};
 ghost use Rattle.refusals.specs.Refusals.{answerSays};
 ghost use Rattle.cells.specs.Picture.{pictureTold};
-ghost use Rattle.marks.specs.Summaries.{displayed, summariesTold, summariesLeaves, replaceTold, videoLeaves, replaceLeaves};
+ghost use Rattle.marks.specs.Summaries.{displayedRasters, summariesTold, summariesLeaves, replaceTold, videoLeaves, replaceLeaves};
 
 // How many rasters are displayed.
-fn displayed(s: Setting) -> usize
-    ensures { λ r. ⌜ r ≡ displayed s ⌝ }
+fn displayed_rasters(s: Setting) -> usize
+    ensures { λ r. ⌜ r ≡ displayedRasters s ⌝ }
 {
     s.vde.height_from(s.vds).0 as usize
 }
@@ -40,7 +40,7 @@ fn put_summaries(
     ensures { λ r. ⌜ (answerSays r ≡ summariesTold g (now (video .entry)) (now (cursor .entry)) (length (now (out .entry))))
         × (now (out .exit) ≡ summariesLeaves g (now (video .entry)) (now (cursor .entry)) threshold (now (out .entry))) ⌝ }
 {
-    let rasters = displayed(s);
+    let rasters = displayed_rasters(s);
     if out.len() < 3 * rasters {
         return Answer::Refused(Refusal::Short);
     }
@@ -98,7 +98,7 @@ fn put_word(
     if video.len() <= index {
         return Answer::Refused(Refusal::WordIndex);
     }
-    if out.len() < 3 * displayed(s) {
+    if out.len() < 3 * displayed_rasters(s) {
         return Answer::Refused(Refusal::Short);
     }
     video[index] = word;

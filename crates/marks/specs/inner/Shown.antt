@@ -63,7 +63,7 @@ unfoldable pub numberBy : List ℕ → List ℕ → Setting → List ℕ → Lis
 numberBy greys pixels s video cursor k = numberOf (entryBy greys pixels s video cursor (s .vds .0 + k / 3)) (k % 3)
 
 -- What the tables hold: of bright pixels, of bytes, and at depths up to 4 of masks.
-pub record Tables (pixels bytes masks : List ℕ) (d : ℕ) : Type 0 where
+pub record RasterTables (pixels bytes masks : List ℕ) (d : ℕ) : Type 0 where
   pub few : AtMost pixels 1
   pub summed : Tabled bytes 256 (byteBright pixels d)
   pub held : d ≤ 4 → Masks masks d 256

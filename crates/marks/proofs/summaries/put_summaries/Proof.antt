@@ -9,18 +9,18 @@ use Rattle.marks.proofs.Tabled.{bright-most}
 use Rattle.marks.proofs.summaries.put_summaries.Statement.{statement}
 use Rattle.marks.proofs.summaries.put_summaries.Tie as tie
 
-displayed-requires : tie.Need-displayed-requires
-displayed-requires c κs = search needs
+displayed-rasters-requires : tie.Need-displayed-rasters-requires
+displayed-rasters-requires c κs = search needs
 
 mul-if1 : tie.Need-mul-if1
 mul-if1 c =
     let s = c .before .before .before .before in
-    omega (arith, c .displayed .ensures, given-picture (s .args .g) _ _ (s .args .s) (s .pre) .accepted .vde-most)
+    omega (arith, c .displayed-rasters .ensures, given-picture (s .args .g) _ _ (s .args .s) (s .pre) .accepted .vde-most)
 
 returns : tie.Need-returns
 returns c =
     let s = c .before .before .before .before .before in
-    summaries-short (s .args .g) _ _ (s .args .threshold) _ (s .args .s) (s .pre) (rw (c .before .displayed .ensures) at (c .if1 .taken))
+    summaries-short (s .args .g) _ _ (s .args .threshold) _ (s .args .s) (s .pre) (rw (c .before .displayed-rasters .ensures) at (c .if1 .taken))
 
 greys-of-requires : tie.Need-greys-of-requires
 greys-of-requires c κs = search needs
@@ -58,7 +58,7 @@ put-entries-requires c κs =
         summed = bytes .bright-bytes .ensures;
         held = masks .masks-of .ensures;
       },
-      test .before .displayed .ensures,
+      test .before .displayed-rasters .ensures,
       test .if1 .left,
     )
 
@@ -73,17 +73,17 @@ returns-2 c =
     let test = greys .before in
     let s = test .before .before .before .before .before in
     let p = given-picture (s .args .g) _ _ (s .args .s) (s .pre) in
-    let room = rw (test .before .displayed .ensures) at (test .if1 .left) in
+    let room = rw (test .before .displayed-rasters .ensures) at (test .if1 .left) in
     summaries-put (s .args .g) _ _ (s .args .threshold) _ (s .args .s) (s .pre) _ room
     (all-put (s .args .g) (s .args .s) _ _ (s .args .threshold) _ _ (p .accepted) (greys .greys-of .ensures)
     (lit-bright (s .args .g) (s .args .s .depth) (s .args .threshold) (greys .greys-of .ensures) (pixels .lit-pixels .ensures))
-    (s .args .out .now) room (rw (test .before .displayed .ensures) at (put .put-entries .ensures)))
+    (s .args .out .now) room (rw (test .before .displayed-rasters .ensures) at (put .put-entries .ensures)))
 
 pub put-summaries-spec : {M : Type 1} → statement M
 put-summaries-spec =
     tie.close
     (tie.spec
-    displayed-requires
+    displayed-rasters-requires
     mul-if1
     returns
     greys-of-requires

@@ -7,7 +7,7 @@ use Rattle.marks.specs.Summaries.{rasterOf}
 use Rattle.marks.proofs.Calls.{replace-outside, replace-short, replace-put}
 use Rattle.marks.proofs.Greys.{lit-bright}
 use Rattle.marks.proofs.Put.{one-put}
-use Rattle.marks.proofs.Replacing.{raster-some, raster-displayed, replaced-picture}
+use Rattle.marks.proofs.Replacing.{raster-some, word-displayed, replaced-picture}
 use Rattle.marks.proofs.Tabled.{bright-most}
 use Rattle.marks.proofs.summaries.put_word.Statement.{statement}
 use Rattle.marks.proofs.summaries.put_word.Tie as tie
@@ -17,20 +17,20 @@ returns c =
     let s = c .before .before .before .before in
     replace-outside (s .args .g) _ _ (s .args .threshold) _ (s .args .index) (s .args .word) (s .args .s) (s .pre) (c .if1 .taken)
 
-displayed-requires : tie.Need-displayed-requires
-displayed-requires c κs = search needs
+displayed-rasters-requires : tie.Need-displayed-rasters-requires
+displayed-rasters-requires c κs = search needs
 
 mul-if2 : tie.Need-mul-if2
 mul-if2 c =
     let s = c .before .before .before .before .before in
-    omega (arith, c .displayed .ensures, given-picture (s .args .g) _ _ (s .args .s) (s .pre) .accepted .vde-most)
+    omega (arith, c .displayed-rasters .ensures, given-picture (s .args .g) _ _ (s .args .s) (s .pre) .accepted .vde-most)
 
 returns-2 : tie.Need-returns-2
 returns-2 c =
     let here = c .before .before in
     let s = here .before .before .before .before in
     replace-short (s .args .g) _ _ (s .args .threshold) _ (s .args .index) (s .args .word) (s .args .s) (s .pre) (here .if1 .left)
-    (rw (c .before .displayed .ensures) at (c .if2 .taken))
+    (rw (c .before .displayed-rasters .ensures) at (c .if2 .taken))
 
 mul-video : tie.Need-mul-video
 mul-video c = search needs
@@ -63,7 +63,7 @@ by-pixels-requires c κs =
     let s = here .before .before .before .before in
     let p = given-picture (s .args .g) _ _ (s .args .s) (s .pre) in (
       replaced-picture (s .args .s) _ _ (s .args .index) (s .args .word) p,
-      rw (words .raster-words .ensures) (raster-displayed (s .args .s) (p .accepted) (s .args .index) (rw (p .video-words) at (here .if1 .left))),
+      rw (words .raster-words .ensures) (word-displayed (s .args .s) (p .accepted) (s .args .index) (rw (p .video-words) at (here .if1 .left))),
       bright-most (s .args .g) (s .args .s .depth) (s .args .threshold)
           (lit-bright (s .args .g) (s .args .s .depth) (s .args .threshold) (greys .greys-of .ensures) (pixels .lit-pixels .ensures)),
     )
@@ -75,8 +75,8 @@ put-entry-requires c κs =
     let here = test .before .before in
     let s = here .before .before .before .before in
     let p = given-picture (s .args .g) _ _ (s .args .s) (s .pre) in
-    let r = raster-displayed (s .args .s) (p .accepted) (s .args .index) (rw (p .video-words) at (here .if1 .left)) in
-    rw (words .raster-words .ensures) (omega (arith, r, test .if2 .left, test .before .displayed .ensures))
+    let r = word-displayed (s .args .s) (p .accepted) (s .args .index) (rw (p .video-words) at (here .if1 .left)) in
+    rw (words .raster-words .ensures) (omega (arith, r, test .if2 .left, test .before .displayed-rasters .ensures))
 
 same-length : tie.Need-same-length
 same-length c = search needs
@@ -95,8 +95,8 @@ returns-3 c =
     let here = test .before .before in
     let s = here .before .before .before .before in
     let p = given-picture (s .args .g) _ _ (s .args .s) (s .pre) in
-    let room = rw (test .before .displayed .ensures) at (test .if2 .left) in
-    let r = raster-displayed (s .args .s) (p .accepted) (s .args .index) (rw (p .video-words) at (here .if1 .left)) in
+    let room = rw (test .before .displayed-rasters .ensures) at (test .if2 .left) in
+    let r = word-displayed (s .args .s) (p .accepted) (s .args .index) (rw (p .video-words) at (here .if1 .left)) in
     replace-put (s .args .g) _ _ (s .args .threshold) _ (s .args .index) (s .args .word) (s .args .s) (s .pre) (here .if1 .left) _ room
     (one-put (s .args .g) (s .args .s) _ _ (s .args .threshold) _ _ (p .accepted) (greys .greys-of .ensures)
     (lit-bright (s .args .g) (s .args .s .depth) (s .args .threshold) (greys .greys-of .ensures) (pixels .lit-pixels .ensures))
@@ -108,7 +108,7 @@ put-word-spec =
     tie.close
     (tie.spec
     returns
-    displayed-requires
+    displayed-rasters-requires
     mul-if2
     returns-2
     mul-video
