@@ -59,35 +59,23 @@ pub fn by_words(
     let words = raster_words(s);
     let per = 32 / s.depth as usize;
     let first = r * words;
+    let end = first + words;
     let part = cursor_part(s, y);
+    let from = part.from;
+    let to = part.to;
+    let depth = s.depth;
     let mut flags = [0u8; 256];
-    let left = span(
-        s.depth,
-        bytes,
-        masks,
-        video,
-        first,
-        first + part.from,
-        &mut flags,
-    );
+    let left = span(depth, bytes, masks, video, first, first + from, &mut flags);
     let middle = shown_in(
         s,
         video,
         cursor,
         pixels,
         y,
-        part.from * per,
-        part.to * per,
+        from * per,
+        to * per,
         &mut flags,
     );
-    let right = span(
-        s.depth,
-        bytes,
-        masks,
-        video,
-        first + part.to,
-        first + words,
-        &mut flags,
-    );
-    entry_of(greys, &flags, s.depth, left + middle + right)
+    let right = span(depth, bytes, masks, video, first + to, end, &mut flags);
+    entry_of(greys, &flags, depth, left + middle + right)
 }

@@ -12,11 +12,11 @@ use borrow.Author.Needs.{needs}
 use Rattle.marks.proofs.rasters.by_words.Statement.{statement}
 use Rattle.marks.proofs.rasters.by_words.Tie as tie
 
-cast-t18 : tie.Need-cast-t18
-cast-t18 c = search needs
+cast-t22 : tie.Need-cast-t22
+cast-t22 c = search needs
 
-add-t19 : tie.Need-add-t19
-add-t19 c = search needs
+add-t23 : tie.Need-add-t23
+add-t23 c = search needs
 
 raster-words-requires : tie.Need-raster-words-requires
 raster-words-requires c κs = search needs
@@ -33,20 +33,25 @@ mul-first c =
     let s = words .before .before .before .before in
     omega (arith, raster-inside _ _ (s .pre .0) (s .pre .1) (words .raster-words .ensures))
 
+add-end : tie.Need-add-end
+add-end c =
+    let words = c .before in
+    let s = words .before .before .before .before in
+    omega (arith, raster-inside _ _ (s .pre .0) (s .pre .1) (words .raster-words .ensures))
+
 cursor-part-requires : tie.Need-cursor-part-requires
 cursor-part-requires c κs = search needs
 
 add-span : tie.Need-add-span
 add-span c =
-    let part = c .before in
-    let words = part .before .before in
+    let words = c .before .before in
     let s = words .before .before .before .before in
     let fits = raster-inside _ _ (s .pre .0) (s .pre .1) (words .raster-words .ensures) in
-    omega (arith, fits, part .cursor-part .ensures)
+    omega (arith, fits, c .cursor-part .ensures)
 
 span-requires : tie.Need-span-requires
 span-requires c κs =
-    let part = c .before .before in
+    let part = c .before in
     let words = part .before .before in
     let s = words .before .before .before .before in
     let fits = raster-inside _ _ (s .pre .0) (s .pre .1) (words .raster-words .ensures) in
@@ -62,40 +67,34 @@ span-requires c κs =
 
 mul-shown-in : tie.Need-mul-shown-in
 mul-shown-in c =
-    let part = c .before .before .before .before in
+    let part = c .before .before in
     let s = part .before .before .before .before .before .before in
     omega (arith, part-inside _ (s .pre .0 .accepted) (part .cursor-part .ensures))
 
 mul-shown-in-2 : tie.Need-mul-shown-in-2
 mul-shown-in-2 c =
-    let part = c .before .before .before .before .before in
+    let part = c .before .before in
     let s = part .before .before .before .before .before .before in
     omega (arith, part-inside _ (s .pre .0 .accepted) (part .cursor-part .ensures))
 
 shown-in-requires : tie.Need-shown-in-requires
 shown-in-requires c κs =
-    let part = c .before .before .before .before .before .before in
+    let part = c .before .before .before in
     let s = part .before .before .before .before .before .before in
     let inside = part-inside _ (s .pre .0 .accepted) (part .cursor-part .ensures) in
-    (s .pre .0, omega arith, omega arith, inside .0, inside .1, s .pre .2 .few, c .before .before .before .span .ensures .2 .len)
+    (s .pre .0, omega arith, omega arith, inside .0, inside .1, s .pre .2 .few, c .before .span .ensures .2 .len)
 
 add-span-2 : tie.Need-add-span-2
 add-span-2 c =
-    let part = c .before .before .before .before .before .before .before .before in
+    let part = c .before .before .before .before in
     let words = part .before .before in
     let s = words .before .before .before .before in
     let fits = raster-inside _ _ (s .pre .0) (s .pre .1) (words .raster-words .ensures) in
     omega (arith, fits, part .cursor-part .ensures)
 
-add-span-3 : tie.Need-add-span-3
-add-span-3 c =
-    let words = c .before .before .before .before .before .before .before .before .before .before in
-    let s = words .before .before .before .before in
-    omega (arith, raster-inside _ _ (s .pre .0) (s .pre .1) (words .raster-words .ensures))
-
 span-requires-2 : tie.Need-span-requires-2
 span-requires-2 c κs =
-    let part = c .before .before .before .before .before .before .before .before .before in
+    let part = c .before .before .before .before .before in
     let words = part .before .before in
     let s = words .before .before .before .before in
     let fits = raster-inside _ _ (s .pre .0) (s .pre .1) (words .raster-words .ensures) in
@@ -106,7 +105,7 @@ span-requires-2 c κs =
       omega arith,
       omega arith,
       omega arith,
-      c .before .before .shown-in .ensures .2 .len ∙ c .before .before .before .before .before .before .span .ensures .2 .len,
+      c .before .shown-in .ensures .2 .len ∙ c .before .before .before .span .ensures .2 .len,
     )
 
 add-entry-of : tie.Need-add-entry-of
@@ -118,9 +117,9 @@ add-entry-of-2 c = search needs
 entry-of-requires : tie.Need-entry-of-requires
 entry-of-requires c κs =
     let right = c .before in
-    let middle = right .before .before .before in
-    let left = middle .before .before .before .before in
-    let part = left .before .before .before in
+    let middle = right .before .before in
+    let left = middle .before .before in
+    let part = left .before .before in
     let words = part .before .before in
     let s = words .before .before .before .before in
     let a = s .pre .0 .accepted in
@@ -132,9 +131,9 @@ entry-of-requires c κs =
 returns : tie.Need-returns
 returns c =
     let right = c .before .before in
-    let middle = right .before .before .before in
-    let left = middle .before .before .before .before in
-    let part = left .before .before .before in
+    let middle = right .before .before in
+    let left = middle .before .before in
+    let part = left .before .before in
     let words = part .before .before in
     let s = words .before .before .before .before in
     let a = s .pre .0 .accepted in
@@ -148,12 +147,13 @@ pub by-words-spec : {M : Type 1} → statement M
 by-words-spec =
     tie.close
     (tie.spec
-    cast-t18
-    add-t19
+    cast-t22
+    add-t23
     raster-words-requires
     cast-per
     div-per
     mul-first
+    add-end
     cursor-part-requires
     add-span
     span-requires
@@ -161,7 +161,6 @@ by-words-spec =
     mul-shown-in-2
     shown-in-requires
     add-span-2
-    add-span-3
     span-requires-2
     add-entry-of
     add-entry-of-2
