@@ -86,21 +86,22 @@ def functions(text):
 
 
 def sources(crate):
-    """Each source file of a crate by its module path."""
-    found, start = {}, f"crates/{crate}/src"
-    for folder, _, files in os.walk(start):
-        for name in files:
-            path = os.path.join(folder, name)
-            module = os.path.relpath(path, start)[:-3].split(os.sep)
-            found[tuple(module[:-1] if module[-1] in ("lib", "main", "mod") else module)] = path
-    return found
+    """The text of each source file of a crate in the working tree, by path."""
+    return {path: read(path) for folder, _, names in os.walk(f"crates/{crate}/src") for path in (os.path.join(folder, name) for name in names)}
 
 
-def public(crate):
+def module_of(path):
+    names = path[:-3].split("/")[3:]
+    return tuple(names[:-1] if names[-1] in ("lib", "main", "mod") else names)
+
+
+def public(crate, texts=None):
     """The crate's public calls: `pub`, and in the crate's root, in `pub` modules all the way, or brought out by `pub use`; a `pub`
-    method of a public type, in whatever module it stands; a function exported to C; a program's `main`."""
-    paths = sources(crate)
-    files = {module: rattle(read(path)) for module, path in paths.items()}
+    method of a public type, in whatever module it stands; a function exported to C; a program's `main`. Its source files are the
+    working tree's, or those given."""
+    texts = sources(crate) if texts is None else texts
+    paths = {module_of(path): path for path in texts}
+    files = {module: rattle(texts[path]) for module, path in paths.items()}
     shown = {(*module, name) for module, text in files.items() for name in re.findall(r"\bpub mod (\w+)", text)}
     brought = {name for text in files.values() for use in re.findall(r"\bpub use ([^;]*);", text) for name in re.findall(r"\w+|\*", use)}
     types = {name: module for module, text in files.items() for name in re.findall(r"\b(?:struct|enum) (\w+)", text)}

@@ -1,39 +1,25 @@
--- The table of amplitudes follows its rule: one test, computed at each of the 128 entries.
-use mathlib.Core.Path.{_≡_}
-use mathlib.Core.Bool.{Bool}
-use mathlib.Core.List.{List, [], _∷_}
-use Prim.Native.Nat.{ℕ, _+_, _*_, _-_, _/_, _%_, _^_, _<_, _≤_}
+-- 16 and the point, shifted by the chord: no bit is lost, and what comes of it is from 16 to 3968.
+use mathlib.Core.Path.{_≡_, _∙_}
+use Prim.Native.Nat.{ℕ, _+_, _*_, _/_, _%_, _^_, _<_, _≤_}
+use native.Mathlib.Nat.{le-refl, mul-comm, mul-le-mul}
 use native.Mathlib.Omega.{arith}
-use lib.Dec.{eqb, leb, eqb→eq, leb→le}
-use lib.ListN.{getD}
-use Rattle.buffers.proofs.Table.{at}
-use Rattle.sound.specs.Amplitude.{chordOf, amplitudeOf}
+use lib.Pow.{pow-pos, pow-mono, shl-exact}
+use Rattle.sound.specs.Amplitude.{pointOf, chordOf, amplitudeOf}
 
-abbrev pub amplitudes : List ℕ
-amplitudes =
-    0 ∷ 1 ∷ 2 ∷ 3 ∷ 4 ∷ 5 ∷ 6 ∷ 7 ∷ 8 ∷ 9 ∷ 10 ∷ 11 ∷ 12 ∷ 13 ∷ 14 ∷ 15
-    ∷ 16 ∷ 18 ∷ 20 ∷ 22 ∷ 24 ∷ 26 ∷ 28 ∷ 30 ∷ 32 ∷ 34 ∷ 36 ∷ 38 ∷ 40 ∷ 42 ∷ 44 ∷ 46
-    ∷ 48 ∷ 52 ∷ 56 ∷ 60 ∷ 64 ∷ 68 ∷ 72 ∷ 76 ∷ 80 ∷ 84 ∷ 88 ∷ 92 ∷ 96 ∷ 100 ∷ 104 ∷ 108
-    ∷ 112 ∷ 120 ∷ 128 ∷ 136 ∷ 144 ∷ 152 ∷ 160 ∷ 168 ∷ 176 ∷ 184 ∷ 192 ∷ 200 ∷ 208 ∷ 216 ∷ 224 ∷ 232
-    ∷ 240 ∷ 256 ∷ 272 ∷ 288 ∷ 304 ∷ 320 ∷ 336 ∷ 352 ∷ 368 ∷ 384 ∷ 400 ∷ 416 ∷ 432 ∷ 448 ∷ 464 ∷ 480
-    ∷ 496 ∷ 528 ∷ 560 ∷ 592 ∷ 624 ∷ 656 ∷ 688 ∷ 720 ∷ 752 ∷ 784 ∷ 816 ∷ 848 ∷ 880 ∷ 912 ∷ 944 ∷ 976
-    ∷ 1008 ∷ 1072 ∷ 1136 ∷ 1200 ∷ 1264 ∷ 1328 ∷ 1392 ∷ 1456 ∷ 1520 ∷ 1584 ∷ 1648 ∷ 1712 ∷ 1776 ∷ 1840 ∷ 1904 ∷ 1968
-    ∷ 2032 ∷ 2160 ∷ 2288 ∷ 2416 ∷ 2544 ∷ 2672 ∷ 2800 ∷ 2928 ∷ 3056 ∷ 3184 ∷ 3312 ∷ 3440 ∷ 3568 ∷ 3696 ∷ 3824 ∷ 3952
-    ∷ []
+-- a shift in 16 bits that loses none leaves at least as much
+pub shifted-least : (x n : ℕ) → x < 2 ^ 8 → n ≤ 8 → x ≤ x * 2 ^ n % 2 ^ 16
+shifted-least x n h k = rw (shl-exact 8 n 16 h (omega arith)) (omega (arith, mul-le-mul {m₁ = 1} (le-refl x) (pow-pos n)))
 
--- entry k is the amplitude of the byte 2k
-follows : ℕ → ℕ → Bool
-follows k x = eqb x (2 ^ (k / 16) * (k % 16 + 16) - 16)
+module _ (byte : ℕ) (h : byte < 256) where
+  -- nothing stands above the chord
+  pub shifted : (pointOf byte + 16) * 2 ^ (byte / 32) % 2 ^ 16 ≡ 2 ^ chordOf byte * (pointOf byte + 16)
+  shifted =
+      let top : chordOf byte ≡ byte / 32 = omega arith in
+      rw top (shl-exact 5 (byte / 32) 16 (omega arith) (omega arith) ∙ mul-comm (pointOf byte + 16) (2 ^ (byte / 32)))
 
-small : ℕ → ℕ → Bool
-small k x = leb x 3952
+  shifted-most : 2 ^ chordOf byte * (pointOf byte + 16) ≤ 3968
+  shifted-most = mul-le-mul {n₂ = 2 ^ 7} {m₂ = 31} (pow-mono {j = 7} (omega arith)) (omega arith)
 
-pub amplitude-at : (byte : ℕ) → byte < 256 → getD amplitudes (byte / 2) 0 ≡ amplitudeOf byte
-unfolding amplitudeOf follows
-amplitude-at byte h =
-    let c : chordOf byte ≡ byte / 2 / 16 = omega arith in
-    rw c (eqb→eq (getD amplitudes (byte / 2) 0) _ (at follows amplitudes tt (byte / 2) (omega arith)))
-
-pub amplitude-most : (byte : ℕ) → byte < 256 → amplitudeOf byte ≤ 3952
-unfolding small
-amplitude-most byte h = rw (← amplitude-at byte h) (leb→le (getD amplitudes (byte / 2) 0) 3952 (at small amplitudes tt (byte / 2) (omega arith)))
+  pub amplitude-most : amplitudeOf byte ≤ 3952
+  unfolding amplitudeOf
+  amplitude-most = omega (arith, shifted-most)

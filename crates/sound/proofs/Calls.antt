@@ -1,5 +1,5 @@
 -- From what the check of the registers tells to what the sound call tells: refused there, or short of room, or done.
-use mathlib.Core.Path.{_≡_, _∙_}
+use mathlib.Core.Path.{_≡_, _∙_, ap}
 use mathlib.Core.List.{List, [], _∷_}
 use Prim.Native.Nat.{ℕ, _*_, _/_, _<_, _≤_}
 use native.Mathlib.Omega.{arith}
@@ -12,12 +12,11 @@ use Rattle.buffers.specs.Words.{bytesOf}
 use Rattle.refusals.specs.Table.{why, Why, Told, given, refused, row, judged, andThen, unlessRefused}
 use Rattle.registers.specs.Sound.{soundTold}
 use Rattle.registers.specs.declared.record.Registers.{Registers}
-use Rattle.sound.specs.Sixths.{leftAt, rightAt}
 use Rattle.sound.specs.Values.{counterAfter, valuesOf}
 use Rattle.sound.specs.Play.{playTold, playedOf}
-use Rattle.sound.specs.inner.Tables.{eight, inTable}
+use Rattle.sound.specs.inner.Tables.{leftIn, rightIn, SixthsOf}
 use Rattle.sound.proofs.Accepted.{play-rows}
-use Rattle.sound.proofs.Eight.{values-by}
+use Rattle.sound.proofs.Eleven.{values-by}
 
 module _ (g : Registers) (words : List ℕ) (counter : ℕ) (out : List ℤ) where
   -- the three promises of the call, of its answer, counter and memory
@@ -39,13 +38,11 @@ module _ (g : Registers) (words : List ℕ) (counter : ℕ) (out : List ℤ) whe
       (rw (rows, ← e, t), rw (rows, ← e, t), rw (rows, ← e, t))
 
   pub play-done :
-      (c : ℕ) (after : List ℤ) (lefts rights : List ℕ) → given tt ≡ soundTold g → length words ≤ length out / 8
-      → lefts ≡ eight (leftAt g) → rights ≡ eight (rightAt g)
-      → c ≡ counterAfter counter (4 * length words)
-      → after ≡ sets out 0 (valuesOf (inTable lefts) (inTable rights) counter (bytesOf words))
+      (c : ℕ) (after : List ℤ) (table : List ℕ) → given tt ≡ soundTold g → length words ≤ length out / 8
+      → SixthsOf g table 11 → c ≡ counterAfter counter (4 * length words)
+      → after ≡ sets out 0 (valuesOf (leftIn table) (rightIn table) counter (bytesOf words))
       → Promised (given tt) c after
   unfolding playedOf
-  play-done c after lefts rights e h l r p q =
+  play-done c after table e h s p q =
       let t = le-ltb (length out) (8 * length words) (omega arith) in
-      let values = values-by (leftAt g) (rightAt g) counter (bytesOf words) in
-      (rw (rows, ← e, t), rw (rows, ← e, t) p, rw (rows, ← e, t) (q ∙ rw (l, r, values)))
+      (rw (rows, ← e, t), rw (rows, ← e, t) p, rw (rows, ← e, t) (q ∙ ap (sets out 0) (values-by g table s counter (bytesOf words))))

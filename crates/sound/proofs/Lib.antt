@@ -2,7 +2,7 @@ pub mod Told
 pub mod Amplitudes
 pub mod Signed
 pub mod Turns
-pub mod Eight
+pub mod Eleven
 pub mod Calls
 pub mod Unique
 pub mod Cases

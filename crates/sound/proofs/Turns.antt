@@ -8,20 +8,16 @@ use lib.IntN.{ℤ}
 use lib.ListN.{length, getD, set, drop, drop-of-length-le}
 use lib.Seq.{sets, drop-cons}
 use Rattle.buffers.specs.Words.{bytesOf}
-use Rattle.sound.specs.Amplitude.{valueOf}
-use Rattle.sound.specs.Values.{channelOf, counterAfter, valuesOf}
+use Rattle.sound.specs.Values.{counterAfter, valuesOf}
 
 -- four steps of the counter are one step of four
 four-steps : (c : ℕ) → counterAfter (counterAfter (counterAfter (counterAfter c 1) 1) 1) 1 ≡ counterAfter c 4
 four-steps c = omega arith
 
-module _ (left right : ℕ → ℕ) where
-  pub byte-put :
-      (l : List ℤ) (at byte counter : ℕ) (x y : ℤ) → x ≡ valueOf byte (left (channelOf counter)) → y ≡ valueOf byte (right (channelOf counter))
-      → set (set l at x) (at + 1) y ≡ sets l at (valuesOf left right counter (byte ∷ []))
-  unfolding valuesOf
-  byte-put l at byte counter x y e f = rw (e, f, add-one)
+pub byte-put : (l : List ℤ) (at : ℕ) (x y v w : ℤ) → x ≡ v → y ≡ w → set (set l at x) (at + 1) y ≡ sets l at (v ∷ w ∷ [])
+byte-put l at x y v w e f = rw (e, f, add-one)
 
+module _ (left right : ℕ → ℕ) where
   pub word-put :
       (l l1 l2 l3 l4 : List ℤ) (at word c c1 c2 c3 : ℕ)
       → c1 ≡ counterAfter c 1 → c2 ≡ counterAfter c1 1 → c3 ≡ counterAfter c2 1

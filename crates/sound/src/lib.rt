@@ -3,15 +3,13 @@ mod amplitude;
 mod sixths;
 mod values;
 
-use amplitude::amplitudes;
 use amplitude::value;
 use refusals::Answer;
 use refusals::Refusal;
 use registers::record::Registers;
 use sixths::left_of;
-use sixths::lefts;
 use sixths::right_of;
-use sixths::rights;
+use sixths::sixths;
 use values::play_words;
 ghost use mathlib.Core.Path.{_≡_};
 ghost use lib.ListN.{length};
@@ -44,10 +42,9 @@ pub fn pair(byte: u8, stereo: u8) -> Pairing
     if bits == 0 {
         return Pairing::Refused(Refusal::Sound(0));
     }
-    let table = amplitudes();
     Pairing::Given(Sides {
-        left: value(byte, left_of(bits), &table),
-        right: value(byte, right_of(bits), &table),
+        left: value(byte, left_of(bits)),
+        right: value(byte, right_of(bits)),
     })
 }
 
@@ -71,10 +68,8 @@ pub fn play(registers: Registers, words: &[u32], counter: u32, out: &mut [i16]) 
                     answer: Answer::Refused(Refusal::Short),
                 };
             }
-            let left = lefts(registers);
-            let right = rights(registers);
-            let table = amplitudes();
-            let after = play_words(out, words, counter, &left, &right, &table);
+            let table = sixths(registers);
+            let after = play_words(out, words, counter, &table);
             Played {
                 counter: after,
                 answer: Answer::Done,

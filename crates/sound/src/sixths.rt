@@ -3,7 +3,7 @@ use registers::record::Registers;
 ghost use mathlib.Core.Path.{_≡_};
 ghost use Prim.Native.Nat.{_≤_};
 ghost use Rattle.sound.specs.Sixths.{leftOf, rightOf, leftAt, rightAt};
-ghost use Rattle.sound.specs.inner.Tables.{eight};
+ghost use Rattle.sound.specs.inner.Tables.{SixthsOf};
 
 pub fn left_of(stereo: u8) -> u8
     requires { ⌜ stereo ≤ 7 ⌝ }
@@ -35,34 +35,18 @@ fn right_at(registers: Registers, channel: u8) -> u8
     right_of(registers.stereo(channel))
 }
 
-// The left sixths of the eight channels.
-pub fn lefts(registers: Registers) -> [u8; 8]
-    ensures { λ r. ⌜ r ≡ eight (leftAt registers) ⌝ }
+// The sixths of channels in a row, left then right of each. 8 to 10 are channels 0 to 2 again: so the sixths of a word's four bytes
+// stand side by side.
+pub fn sixths(registers: Registers) -> [u8; 22]
+    ensures { λ r. ⌜ SixthsOf registers r 11 ⌝ }
 {
-    [
-        left_at(registers, 0),
-        left_at(registers, 1),
-        left_at(registers, 2),
-        left_at(registers, 3),
-        left_at(registers, 4),
-        left_at(registers, 5),
-        left_at(registers, 6),
-        left_at(registers, 7),
-    ]
-}
-
-// The right sixths of the eight channels.
-pub fn rights(registers: Registers) -> [u8; 8]
-    ensures { λ r. ⌜ r ≡ eight (rightAt registers) ⌝ }
-{
-    [
-        right_at(registers, 0),
-        right_at(registers, 1),
-        right_at(registers, 2),
-        right_at(registers, 3),
-        right_at(registers, 4),
-        right_at(registers, 5),
-        right_at(registers, 6),
-        right_at(registers, 7),
-    ]
+    let mut table = [0u8; 22];
+    let mut channel = 0u8;
+    while channel < 11 {
+        let at = 2 * channel as usize;
+        table[at] = left_at(registers, channel);
+        table[at + 1] = right_at(registers, channel);
+        channel += 1;
+    }
+    table
 }

@@ -14,9 +14,6 @@ returns : tie.Need-returns
 unfolding pairTold
 returns c = rw (eq-eqb (c .before .args .stereo % 8) 0 (c .if1 .taken))
 
-amplitudes-requires : tie.Need-amplitudes-requires
-amplitudes-requires c κs = search needs
-
 left-of-requires : tie.Need-left-of-requires
 left-of-requires c κs = search needs
 
@@ -32,10 +29,10 @@ value-requires-2 c κs = search needs
 returns-2 : tie.Need-returns-2
 unfolding pairTold
 returns-2 c =
-    let at-right-of = c .before .before in
+    let at-right-of = c .before in
     let at-value = at-right-of .before in
-    let at-left-of = at-value .before .before in
-    let at-if1 = at-left-of .before .before in
+    let at-left-of = at-value .before in
+    let at-if1 = at-left-of .before in
     let a = at-if1 .before .args in
     let s = a .stereo % 8 in
     rw (
@@ -51,7 +48,6 @@ pair-spec =
     tie.close
     (tie.spec
     returns
-    amplitudes-requires
     left-of-requires
     value-requires
     right-of-requires

@@ -1,9 +1,7 @@
 -- The sound call, by what the check of its record tells: refused as it is, or short of room, or all values stored.
 use Rattle.sound.proofs.Calls.{play-refused, play-short, play-done}
-use Rattle.sound.proofs.Eight.{eight-most}
-use Rattle.sound.specs.Sixths.{leftAt, rightAt}
+use Rattle.sound.proofs.Eleven.{sixths-all}
 use Rattle.refusals.specs.Refusals.{answerSays}
-use native.Mathlib.Omega.{arith}
 use mathlib.Core.Path.{_∙_, ap, sym}
 use borrow.Author.Needs.{needs}
 use Rattle.sound.proofs.play.Statement.{statement}
@@ -25,27 +23,14 @@ returns c =
     play-short (args .registers) (args .words .now) (args .counter) (args .out .now)
     (ap answerSays (sym (c .before .enum-told .given .1)) ∙ check-sound .ensures) (c .if1 .taken)
 
-lefts-requires : tie.Need-lefts-requires
-lefts-requires c κs = search needs
-
-rights-requires : tie.Need-rights-requires
-rights-requires c κs = search needs
-
-amplitudes-requires : tie.Need-amplitudes-requires
-amplitudes-requires c κs = search needs
+sixths-requires : tie.Need-sixths-requires
+sixths-requires c κs = search needs
 
 play-words-requires : tie.Need-play-words-requires
 play-words-requires c κs =
-    let at-amplitudes = c .before .before .before .before in
-    let at-rights = at-amplitudes .before in
-    let at-lefts = at-rights .before in
-    let args = at-lefts .before .before .before .before .before .before .args in
-    let g = args .registers in (
-      search needs,
-      rw (at-lefts .lefts .ensures) (eight-most (leftAt g) (λ channel. omega arith)),
-      rw (at-rights .rights .ensures) (eight-most (rightAt g) (λ channel. omega arith)),
-      at-amplitudes .amplitudes .ensures,
-    )
+    let at-sixths = c .before .before in
+    let args = at-sixths .before .before .before .before .before .before .args in
+    (search needs, sixths-all (args .registers) _ (at-sixths .sixths .ensures))
 
 returns-2 : tie.Need-returns-2
 returns-2 c =
@@ -59,15 +44,14 @@ same-length c = search needs
 
 returns-3 : tie.Need-returns-3
 returns-3 c =
-    let at-rights = c .before .before .before .before .before .before .before in
-    let at-lefts = at-rights .before in
-    let at-if1 = at-lefts .before in
+    let at-sixths = c .before .before .before .before in
+    let at-if1 = at-sixths .before in
     let at-enum-told = at-if1 .before in
     let at-check-sound = at-enum-told .before .before in
     let args = at-check-sound .before .before .args in
-    play-done (args .registers) (args .words .now) (args .counter) (args .out .now) _ _ _ _
+    play-done (args .registers) (args .words .now) (args .counter) (args .out .now) _ _ _
     (ap answerSays (sym (at-enum-told .enum-told .given .1)) ∙ at-check-sound .check-sound .ensures) (at-if1 .if1 .left)
-    (at-lefts .lefts .ensures) (at-rights .rights .ensures) (c .before .play-words .ensures .0) (c .before .play-words .ensures .1)
+    (at-sixths .sixths .ensures) (c .before .play-words .ensures .0) (c .before .play-words .ensures .1)
 
 pub play-spec : {M : Type 1} → statement M
 play-spec =
@@ -77,9 +61,7 @@ play-spec =
     enum-known-why
     enum-told
     returns
-    lefts-requires
-    rights-requires
-    amplitudes-requires
+    sixths-requires
     play-words-requires
     returns-2
     same-length

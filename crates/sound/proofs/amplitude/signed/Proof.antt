@@ -8,10 +8,10 @@ amplitude-requires : tie.Need-amplitude-requires
 amplitude-requires c κs = search needs
 
 cast-a : tie.Need-cast-a
-cast-a c = rw (c .amplitude .ensures) (amplitude-fits (c .before .args .byte) (search needs))
+cast-a c = rw (c .amplitude .ensures) (amplitude-fits _ (search needs))
 
 sub-result : tie.Need-sub-result
-sub-result c = neg-fits (c .before .before .args .byte) (search needs) _ (c .before .amplitude .ensures)
+sub-result c = neg-fits _ (search needs) _ (c .before .amplitude .ensures)
 
 returns : tie.Need-returns
 returns c = negative (c .before .before .args .byte) (search needs) _ (c .before .amplitude .ensures) (c .if1 .taken)

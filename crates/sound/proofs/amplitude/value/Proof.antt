@@ -11,10 +11,10 @@ cast-result : tie.Need-cast-result
 cast-result c = search needs
 
 mul-result : tie.Need-mul-result
-mul-result c = product-fits (c .before .args .byte) (search needs) (c .before .args .sixths) (c .before .pre .0) _ (c .signed .ensures)
+mul-result c = product-fits (c .before .args .byte) (search needs) (c .before .args .sixths) (c .before .pre) _ (c .signed .ensures)
 
 returns : tie.Need-returns
-returns c = product-is (c .before .args .byte) (search needs) (c .before .args .sixths) (c .before .pre .0) _ (c .signed .ensures)
+returns c = product-is (c .before .args .byte) (search needs) (c .before .args .sixths) (c .before .pre) _ (c .signed .ensures)
 
 pub value-spec : {M : Type 1} → statement M
 value-spec = tie.close (tie.spec signed-requires cast-result mul-result returns)

@@ -1,7 +1,10 @@
 -- A word's values are those of its four bytes, each stored behind the one before.
-use Rattle.sound.specs.inner.Tables.{inTable}
-use Rattle.sound.proofs.Turns.{word-put}
+use mathlib.Core.Path.{refl}
+use native.Mathlib.Omega.{arith}
 use borrow.Author.Needs.{needs}
+use Rattle.sound.specs.inner.Tables.{leftIn, rightIn}
+use Rattle.sound.proofs.Eleven.{by-counter}
+use Rattle.sound.proofs.Turns.{word-put}
 use Rattle.sound.proofs.values.play_word.Statement.{statement}
 use Rattle.sound.proofs.values.play_word.Tie as tie
 
@@ -17,14 +20,8 @@ cast-c c = search needs
 cast-d : tie.Need-cast-d
 cast-d c = search needs
 
-advanced-requires : tie.Need-advanced-requires
-advanced-requires c κs = search needs
-
-advanced-requires-2 : tie.Need-advanced-requires-2
-advanced-requires-2 c κs = search needs
-
-advanced-requires-3 : tie.Need-advanced-requires-3
-advanced-requires-3 c κs = search needs
+cast-channel : tie.Need-cast-channel
+cast-channel c = search needs
 
 play-byte-requires : tie.Need-play-byte-requires
 play-byte-requires c κs = search needs
@@ -32,17 +29,26 @@ play-byte-requires c κs = search needs
 add-play-byte : tie.Need-add-play-byte
 add-play-byte c = search needs
 
+add-play-byte-2 : tie.Need-add-play-byte-2
+add-play-byte-2 c = search needs
+
 play-byte-requires-2 : tie.Need-play-byte-requires-2
 play-byte-requires-2 c κs = search needs
 
-add-play-byte-2 : tie.Need-add-play-byte-2
-add-play-byte-2 c = search needs
+add-play-byte-3 : tie.Need-add-play-byte-3
+add-play-byte-3 c = search needs
+
+add-play-byte-4 : tie.Need-add-play-byte-4
+add-play-byte-4 c = search needs
 
 play-byte-requires-3 : tie.Need-play-byte-requires-3
 play-byte-requires-3 c κs = search needs
 
-add-play-byte-3 : tie.Need-add-play-byte-3
-add-play-byte-3 c = search needs
+add-play-byte-5 : tie.Need-add-play-byte-5
+add-play-byte-5 c = search needs
+
+add-play-byte-6 : tie.Need-add-play-byte-6
+add-play-byte-6 c = search needs
 
 play-byte-requires-4 : tie.Need-play-byte-requires-4
 play-byte-requires-4 c κs = search needs
@@ -55,13 +61,14 @@ returns c =
     let at-play-byte3 = c .before .before .before .before in
     let at-play-byte2 = at-play-byte3 .before .before .before in
     let at-play-byte = at-play-byte2 .before .before .before in
-    let at-advanced3 = at-play-byte .before .before in
-    let at-advanced2 = at-advanced3 .before in
-    let at-advanced = at-advanced2 .before in
-    let a = at-advanced .before .args in
-    word-put (inTable (a .lefts .now)) (inTable (a .rights .now)) (a .out .now) _ _ _ _ (a .at) (a .word) (a .counter) _ _ _
-    (at-advanced .advanced .ensures) (at-advanced2 .advanced2 .ensures) (at-advanced3 .advanced3 .ensures) (at-play-byte .play-byte .ensures)
-    (at-play-byte2 .play-byte2 .ensures) (at-play-byte3 .play-byte3 .ensures) (c .before .play-byte4 .ensures)
+    let s = at-play-byte .before .before in
+    let a = s .args in
+    let table = a .sixths .now in
+    word-put (leftIn table) (rightIn table) (a .out .now) _ _ _ _ (a .at) (a .word) (a .counter) _ _ _ refl refl refl
+    (by-counter table _ _ _ _ _ _ (s .pre .1) (omega arith) (omega arith) (at-play-byte .play-byte .ensures))
+    (by-counter table _ _ _ _ _ _ (s .pre .1) (omega arith) (omega arith) (at-play-byte2 .play-byte2 .ensures))
+    (by-counter table _ _ _ _ _ _ (s .pre .1) (omega arith) (omega arith) (at-play-byte3 .play-byte3 .ensures))
+    (by-counter table _ _ _ _ _ _ (s .pre .1) (omega arith) (omega arith) (c .before .play-byte4 .ensures))
 
 pub play-word-spec : {M : Type 1} → statement M
 play-word-spec =
@@ -71,15 +78,16 @@ play-word-spec =
     cast-b
     cast-c
     cast-d
-    advanced-requires
-    advanced-requires-2
-    advanced-requires-3
+    cast-channel
     play-byte-requires
     add-play-byte
-    play-byte-requires-2
     add-play-byte-2
-    play-byte-requires-3
+    play-byte-requires-2
     add-play-byte-3
+    add-play-byte-4
+    play-byte-requires-3
+    add-play-byte-5
+    add-play-byte-6
     play-byte-requires-4
     same-length
     returns)

@@ -7,19 +7,19 @@ use lib.ListN.{length, drop}
 use lib.Seq.{sets}
 use Rattle.buffers.specs.Words.{bytesOf}
 use Rattle.sound.specs.Values.{counterAfter, valuesOf}
-use Rattle.sound.specs.inner.Tables.{inTable}
+use Rattle.sound.specs.inner.Tables.{leftIn, rightIn}
 use Rattle.sound.proofs.Turns.{words-turn, words-done}
 use Rattle.sound.proofs.values.play_words.Statement.{statement}
 use Rattle.sound.proofs.values.play_words.Tie as tie
 
 abbrev Inv-loop : tie.InvT-loop
-Inv-loop out₀ words counter lefts rights table c₀ k₀ out c k =
+Inv-loop out₀ words counter sixths c₀ k₀ out c k =
     (k ≤ length words) × (length out ≡ length out₀) × (c ≡ counterAfter counter (4 * k))
-    × (sets out₀ 0 (valuesOf (inTable lefts) (inTable rights) counter (bytesOf words))
-    ≡ sets out (8 * k) (valuesOf (inTable lefts) (inTable rights) c (bytesOf (drop k words))))
+    × (sets out₀ 0 (valuesOf (leftIn sixths) (rightIn sixths) counter (bytesOf words))
+    ≡ sets out (8 * k) (valuesOf (leftIn sixths) (rightIn sixths) c (bytesOf (drop k words))))
 
 abbrev μ-loop : tie.MeasureT-loop
-μ-loop out₀ words counter lefts rights table c₀ k₀ out c k = length words - k
+μ-loop out₀ words counter sixths c₀ k₀ out c k = length words - k
 
 loop-holds : tie.Need-loop-holds Inv-loop μ-loop
 loop-holds c = (search needs, search needs, omega arith, refl)
@@ -34,12 +34,7 @@ shared-slice-read-play-word : tie.Need-shared-slice-read-play-word Inv-loop μ-l
 shared-slice-read-play-word c = search needs
 
 play-word-requires : tie.Need-play-word-requires Inv-loop μ-loop
-play-word-requires c κs = (
-  search needs,
-  c .before .before .before .before .before .pre .1,
-  c .before .before .before .before .before .pre .2,
-  c .before .before .before .before .before .pre .3,
-)
+play-word-requires c κs = search needs
 
 advanced-requires : tie.Need-advanced-requires Inv-loop μ-loop
 advanced-requires c κs = search needs
@@ -60,7 +55,7 @@ loop-again c =
       search needs,
       search needs,
       omega (arith, c .advanced .ensures, l .inv .2),
-      l .inv .3 ∙ words-turn (inTable (a .lefts .now)) (inTable (a .rights .now)) (a .words .now) (l .out) _ (l .k) (l .c) _ (search needs)
+      l .inv .3 ∙ words-turn (leftIn (a .sixths .now)) (rightIn (a .sixths .now)) (a .words .now) (l .out) _ (l .k) (l .c) _ (search needs)
           (c .advanced .ensures) (play-word .ensures),
     )
 
@@ -74,7 +69,7 @@ returns c =
     let e : l .k ≡ length (a .words .now) = omega arith in (
       rw (← e) (l .inv .2),
       sym
-          (l .inv .3 ∙ words-done (inTable (a .lefts .now)) (inTable (a .rights .now)) (a .words .now) (l .out) _ (l .k) (l .c) (search needs)),
+          (l .inv .3 ∙ words-done (leftIn (a .sixths .now)) (rightIn (a .sixths .now)) (a .words .now) (l .out) _ (l .k) (l .c) (search needs)),
     )
 
 pub play-words-spec : {M : Type 1} → statement M
