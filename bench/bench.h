@@ -35,7 +35,7 @@ static inline uint16_t colour(const struct picture *p, uint32_t pixel) {
     return (p->palette[pixel & 15] & 0x1737) | (pixel >> 7 & 1) << 11 | (pixel >> 5 & 3) << 6 | (pixel >> 4 & 1) << 3;
 }
 
-static inline uint32_t grey(uint16_t colour) { return 17 * ((colour & 15) + (colour >> 4 & 15) + (colour >> 8 & 15)) / 3; }
+static inline uint32_t grey(uint16_t colour) { return 17 * (77 * (colour & 15) + 150 * (colour >> 4 & 15) + 29 * (colour >> 8 & 15)) / 256; }
 
 // Each baseline is compiled once for each compiler, under that compiler's name.
 #define JOIN(a, b) a##_##b

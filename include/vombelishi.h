@@ -151,7 +151,7 @@ uint64_t vom_replace(const uint32_t *values, size_t values_len, const uint8_t *w
 uint64_t vom_colour(const uint32_t *values, size_t values_len, const uint8_t *written, size_t written_len,
                     uint8_t depth, uint8_t pixel, uint16_t *colour);
 
-/* The grey of a colour, 0 to 255, by its 12 lowest bits. */
+/* The grey of a colour, 0 to 255, by its 12 lowest bits: 17 (77 red + 150 green + 29 blue) / 256, rounded down. */
 uint8_t vom_grey(uint16_t colour);
 
 /* The sync pin's level, 0 low or 1 high, where a cell has this code and control this data. */

@@ -66,9 +66,9 @@ impl Record {
     /// # record.load(registers)?;
     /// let mut video = video.to_vec();
     /// let mut entries = record.summaries(&video, cursor, 30)?;
-    /// assert_eq!(entries, [Entry { marks: 2, least: 0, greatest: 39 }]);
+    /// assert_eq!(entries, [Entry { marks: 2, least: 0, greatest: 35 }]);
     /// record.replace(&mut video, cursor, 30, 0, 0xFFFF_7777, &mut entries)?;
-    /// assert_eq!((&video[..], &entries[..]), (&[0xFFFF_7777][..], &[Entry { marks: 8, least: 39, greatest: 85 }][..]));
+    /// assert_eq!((&video[..], &entries[..]), (&[0xFFFF_7777][..], &[Entry { marks: 8, least: 35, greatest: 76 }][..]));
     /// let outside = record.replace(&mut video, cursor, 30, 1, 0, &mut entries);
     /// assert_eq!(outside, Err(Refusal { number: 18, detail: 0 }));
     /// # Ok::<(), Refusal>(())

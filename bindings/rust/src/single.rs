@@ -3,7 +3,12 @@
 use crate::calls::*;
 use crate::refusal::{answer, Refusal};
 
-/// The grey of a colour, 0 to 255, by its 12 lowest bits.
+/// The grey of a colour, 0 to 255, by its 12 lowest bits: `17 (77 red + 150 green + 29 blue) / 256`, rounded down.
+///
+/// ```
+/// assert_eq!([0x00F, 0x0F0, 0xF00, 0xFFF].map(vombelishi::grey), [76, 149, 28, 255]);
+/// assert_eq!(vombelishi::grey(0xF00F), vombelishi::grey(0x00F));
+/// ```
 pub fn grey(colour: u16) -> u8 {
     // SAFETY: no memory is handed over.
     unsafe { vom_grey(colour) }

@@ -124,13 +124,13 @@ fn two_rasters() -> (Record, [u32; 2]) {
 #[test]
 fn the_entry_of_a_words_raster_changes_alone() {
     let (record, mut video) = two_rasters();
-    let first = Entry { marks: 3, least: 0, greatest: 39 };
-    let mut entries = record.summaries(&video, &[], 28).unwrap();
-    assert_eq!(entries, [first, Entry { marks: 8, least: 45, greatest: 45 }]);
-    assert_eq!(record.replace(&mut video, &[], 28, 1, 0xF000_0000, &mut entries), Ok(()));
+    let first = Entry { marks: 3, least: 0, greatest: 35 };
+    let mut entries = record.summaries(&video, &[], 25).unwrap();
+    assert_eq!(entries, [first, Entry { marks: 8, least: 40, greatest: 40 }]);
+    assert_eq!(record.replace(&mut video, &[], 25, 1, 0xF000_0000, &mut entries), Ok(()));
     assert_eq!(video, [0x7654_3210, 0xF000_0000]);
-    assert_eq!(entries, [first, Entry { marks: 1, least: 0, greatest: 85 }]);
-    assert_eq!(record.summaries(&video, &[], 28), Ok(entries));
+    assert_eq!(entries, [first, Entry { marks: 1, least: 0, greatest: 76 }]);
+    assert_eq!(record.summaries(&video, &[], 25), Ok(entries));
 }
 
 #[test]
@@ -142,7 +142,7 @@ fn entries_that_are_not_right_stay() {
     assert_eq!(entries, [Entry { marks: 8, least: 5, greatest: 5 }, garbage, garbage]);
     assert_eq!(record.summaries_into(&video, &[], 255, &mut entries), Ok(()));
     let none = |grey| Entry { marks: 0, least: grey, greatest: grey };
-    assert_eq!(entries, [none(5), none(45), garbage]);
+    assert_eq!(entries, [none(5), none(40), garbage]);
 }
 
 /// A replacement that is refused, and that list and entries stay.
@@ -181,9 +181,9 @@ fn a_raster_that_the_cursor_covers() {
     let (mut record, video) = two_rasters();
     let cursor = [0x4400_0FFF, 0x4800_0FFF, 0x4C00_0FFF, 0x9800_0000, 0xB800_8000, 0xBC00_C000]; // at 6, raster 3
     record.load(&cursor).unwrap();
-    let second = Entry { marks: 8, least: 45, greatest: 45 };
+    let second = Entry { marks: 8, least: 40, greatest: 40 };
     assert_eq!(record.summaries(&video, &[u32::MAX; 2], 0), Ok(vec![Entry::EMPTY, second]));
-    let first = Entry { marks: 7, least: 5, greatest: 39 };
+    let first = Entry { marks: 7, least: 5, greatest: 35 };
     assert_eq!(record.summaries(&video, &[1 << 10, 0], 0), Ok(vec![first, second]));
 }
 

@@ -57,8 +57,8 @@ markedCases =
     ∷ (pairTold 0x20 3 ≡ given (record { left = pos 64; right = pos 32 }))
     -- 8: counter 4,294,967,295 is channel 7, the next byte channel 0
     ∷ ((channelOf 4294967295 ≡ 7) × (channelOf (counterAfter 4294967295 1) ≡ 0))
-    -- 9: grey of FFFH is 255, of 00FH 85
-    ∷ ((greyOf 0xFFF ≡ 255) × (greyOf 0x00F ≡ 85))
+    -- 9: grey of FFFH is 255, of 00FH 76
+    ∷ ((greyOf 0xFFF ≡ 255) × (greyOf 0x00F ≡ 76))
     -- 10: small plate, raster 3: border cells 36608, display cells 40960 to 40967
     ∷ (rasterLeaves smallRegisters smallVideo [] 3 (replicate 32 0)
     ≡ replicate 4 8192 ++ replicate 3 0 ++ replicate 4 36608

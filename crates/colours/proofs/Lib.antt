@@ -1,3 +1,4 @@
 pub mod Bounds
+pub mod Brighter
 pub mod Sixteen
 pub mod Unique

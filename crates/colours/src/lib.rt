@@ -51,11 +51,12 @@ pub fn entries(g: Registers) -> [u16; 16]
     list
 }
 
-// The grey of a colour, 0 to 255.
+// The grey of a colour, 0 to 255: its guns by the weights the eye has, in 256ths.
 pub fn grey(colour: u16) -> u8
     ensures { λ r. ⌜ r ≡ greyOf colour ⌝ }
 {
-    (17 * (colour % 16 + colour / 16 % 16 + colour / 256 % 16) / 3) as u8
+    let weighed = 77 * (colour % 16) + 150 * (colour / 16 % 16) + 29 * (colour / 256 % 16);
+    (17 * weighed / 256) as u8
 }
 
 fn level(low: bool) -> u8

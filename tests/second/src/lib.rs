@@ -30,6 +30,8 @@ pub mod summaries;
 pub mod text;
 
 #[cfg(test)]
+mod grey_tests;
+#[cfg(test)]
 mod history_tests;
 #[cfg(test)]
 mod live_tests;

@@ -1,4 +1,4 @@
-//! The paper's thirteen marked cases and its small plate, by the second program.
+//! The paper's thirteen marked cases, the ninth by change request 4, and its small plate.
 
 use crate::address::*;
 use crate::cell::{code, colour};
@@ -106,7 +106,7 @@ fn case_8_counter() {
 
 #[test]
 fn case_9_greys() {
-    assert_eq!([0xFFF, 0x00F].map(grey), [255, 85]);
+    assert_eq!([0xFFF, 0x00F].map(grey), [255, 76]);
 }
 
 #[test]

@@ -46,18 +46,18 @@ fn made(record: &Record, video: &[u32], cursor: &[u32], threshold: u8) -> Vec<u1
 
 #[test]
 fn the_small_plates_entry() {
-    // Pixels 0 to 7 have greys 0, 5, 11, 17, 22, 28, 34, 39; the border, which never counts, has 85.
+    // Pixels 0 to 7 have greys 0, 5, 10, 15, 20, 25, 30, 35; the border, which never counts, has 28.
     let counts =
-        [(0, 8), (1, 7), (5, 7), (6, 6), (22, 4), (23, 3), (39, 1), (40, 0), (85, 0), (128, 0), (255, 0)];
+        [(0, 8), (1, 7), (5, 7), (6, 6), (20, 4), (21, 3), (28, 2), (35, 1), (36, 0), (128, 0), (255, 0)];
     for (threshold, count) in counts {
-        assert_eq!(made(&small(), &SMALL_VIDEO, &[], threshold), [count, 0, 39]);
+        assert_eq!(made(&small(), &SMALL_VIDEO, &[], threshold), [count, 0, 35]);
     }
 }
 
 #[test]
 fn one_pixel_and_one_grey() {
-    assert_eq!(made(&small(), &[0x7654_3219], &[], 6), [7, 5, 51]);
-    assert_eq!(made(&small(), &[u32::MAX], &[], 85), [8, 85, 85]);
+    assert_eq!(made(&small(), &[0x7654_3219], &[], 6), [7, 5, 46]);
+    assert_eq!(made(&small(), &[u32::MAX], &[], 76), [8, 76, 76]);
     let white = small().with_word(word(palette_entry(0), 0x1FFF));
     assert_eq!(made(&white, &[0], &[], 255), [8, 255, 255]);
     let supremacy_alone = small().with_word(word(palette_entry(0), 0x1000));
@@ -66,9 +66,9 @@ fn one_pixel_and_one_grey() {
 
 #[test]
 fn entries_in_raster_order() {
-    // Greys of C to F: 68, 73, 79, 85.
+    // Greys of C to F: 61, 66, 71, 76.
     let video = [0x7654_3210, 0xFEDC_BA98, 0xCCCC_CCCC, 0xDDDD_DDDC];
-    assert_eq!(made(&two_by_two(), &video, &[], 70), [3, 0, 85, 7, 68, 73]);
+    assert_eq!(made(&two_by_two(), &video, &[], 64), [3, 0, 76, 7, 61, 66]);
 }
 
 #[test]
@@ -82,19 +82,20 @@ fn depth_one_and_a_count_above_a_byte() {
 
 #[test]
 fn depth_two() {
-    // DS 15, DE 31: one word a raster. Pixels 0 to 3 have greys 0, 5, 11, 17.
+    // DS 15, DE 31: one word a raster. Pixels 0 to 3 have greys 0, 5, 10, 15.
     let record = two_rasters(0x7, [15, 10, 15]);
-    assert_eq!(made(&record, &[0xE4E4_E4E4, 0x5555_5555], &[], 11), [8, 0, 17, 0, 5, 5]);
+    assert_eq!(made(&record, &[0xE4E4_E4E4, 0x5555_5555], &[], 10), [8, 0, 15, 0, 5, 5]);
 }
 
 #[test]
 fn depth_eight_has_unsigned_greys() {
-    // DS 9, DE 13. Bytes 00H, 80H, 10H, FFH are colours 0, 800H, 8, 8CFH: greys 0, 45, 45, 198.
+    // DS 9, DE 13. Bytes 00H, 80H, 10H, FFH are colours 0, 800H, 8, 8CFH: greys 0, 15, 40, 211.
     let record = two_rasters(0xF, [15, 4, 11]);
     let video = [0xFF10_8000, 0xFFFF_FFFF];
-    for (threshold, count) in [(0, 4), (45, 3), (46, 1), (127, 1), (128, 1), (198, 1), (199, 0)] {
-        let all_or_none = if threshold <= 198 { 4 } else { 0 };
-        assert_eq!(made(&record, &video, &[], threshold), [count, 0, 198, all_or_none, 198, 198]);
+    let all = [(0, 4), (15, 3), (16, 2), (40, 2), (41, 1), (127, 1), (128, 1), (211, 1), (212, 0)];
+    for (threshold, count) in all {
+        let all_or_none = if threshold <= 211 { 4 } else { 0 };
+        assert_eq!(made(&record, &video, &[], threshold), [count, 0, 211, all_or_none, 211, 211]);
     }
 }
 
@@ -103,11 +104,11 @@ fn covered_positions_do_not_count() {
     // Display positions 11 to 18 are the cursor's pairs 5 to 12, bits 10 to 25 of its first word.
     let record = with_cursor(small(), 3, 4);
     let entry = |first_word| made(&record, &SMALL_VIDEO, &[first_word, 0], 5);
-    assert_eq!(entry(0), [7, 0, 39]);
-    assert_eq!(entry(0xFC00_03FF), [7, 0, 39]);
-    assert_eq!(entry(0x0000_0400), [7, 5, 39]);
-    assert_eq!(entry(0x0200_0000), [6, 0, 34]);
-    assert_eq!(entry(0x00FF_FC00), [1, 39, 39]);
+    assert_eq!(entry(0), [7, 0, 35]);
+    assert_eq!(entry(0xFC00_03FF), [7, 0, 35]);
+    assert_eq!(entry(0x0000_0400), [7, 5, 35]);
+    assert_eq!(entry(0x0200_0000), [6, 0, 30]);
+    assert_eq!(entry(0x00FF_FC00), [1, 35, 35]);
     assert_eq!(entry(0x03FF_FC00), [0, 255, 0]);
     assert_eq!(made(&record, &SMALL_VIDEO, &[u32::MAX; 2], 0), [0, 255, 0]);
 }
@@ -116,9 +117,9 @@ fn covered_positions_do_not_count() {
 fn one_raster_of_two_is_covered() {
     // At x 6 the cursor reaches to 37, over all of 11 to 26.
     let below = with_cursor(two_by_two(), 4, 6);
-    assert_eq!(made(&below, &[u32::MAX; 4], &[u32::MAX; 4], 0), [16, 85, 85, 0, 255, 0]);
+    assert_eq!(made(&below, &[u32::MAX; 4], &[u32::MAX; 4], 0), [16, 76, 76, 0, 255, 0]);
     let above = with_cursor(two_by_two(), 2, 4);
-    assert_eq!(made(&above, &[u32::MAX; 4], &[u32::MAX; 4], 0), [0, 255, 0, 16, 85, 85]);
+    assert_eq!(made(&above, &[u32::MAX; 4], &[u32::MAX; 4], 0), [0, 255, 0, 16, 76, 76]);
 }
 
 #[test]
@@ -191,13 +192,13 @@ fn eleven_then_eighteen_then_thirteen() {
 
 #[test]
 fn the_other_entries_keep_even_garbage() {
-    // 88888888H is eight greys 45; the raster's other word is eight greys 5 or 11.
-    let expected = [(0, [8, 5, 45]), (1, [8, 5, 45]), (2, [8, 11, 45]), (3, [8, 11, 45])];
+    // 88888888H is eight greys 40; the raster's other word is eight greys 5 or 10.
+    let expected = [(0, [8, 5, 40]), (1, [8, 5, 40]), (2, [8, 10, 40]), (3, [8, 10, 40])];
     for (index, entry) in expected {
         let mut video = [0x1111_1111, 0x1111_1111, 0x2222_2222, 0x2222_2222];
         let (mut after, mut numbers) = (video, [GARBAGE; 8]);
         after[index] = 0x8888_8888;
-        assert_eq!(replace(&two_by_two(), &mut video, &[], 45, index, 0x8888_8888, &mut numbers), Ok(()));
+        assert_eq!(replace(&two_by_two(), &mut video, &[], 40, index, 0x8888_8888, &mut numbers), Ok(()));
         assert_eq!(video, after);
         let mut expected = [GARBAGE; 8];
         let place = 3 * (index / 2);
