@@ -63,7 +63,7 @@ static void no_lists(void) {
     is("vom_frame, no cursor", vom_frame(GIVEN, video, 1, NONE, cells, 192) == 0 && cells[3 * 32 + 18] == 40967);
     is("vom_raster, no cursor", vom_raster(GIVEN, video, 1, NONE, 3, cells, 192) == 0 && cells[11] == 40960);
     is("vom_marks, no cursor", vom_marks(GIVEN, video, 1, NONE, 0, &count) == 0 && count == 8);
-    is("vom_summaries, no cursor", vom_summaries(GIVEN, video, 1, NONE, 39, entry, VOM_ENTRY) == 0 && entry[0] == 1);
+    is("vom_summaries, no cursor", vom_summaries(GIVEN, video, 1, NONE, 35, entry, VOM_ENTRY) == 0 && entry[0] == 1);
     is("vom_replace, no cursor", vom_replace(GIVEN, video, 1, NONE, 0, 0, 0x76543210, entry, VOM_ENTRY) == 0 && entry[0] == 8);
     is("vom_sound, no words", vom_sound(GIVEN, NONE, &counter, NONE) == 0 && counter == 4294967295u);
     is("the display off", vom_load_word(GIVEN, 0xB0000000 | 2 << 14) == 0);
