@@ -33,5 +33,5 @@ white-alone c = (λ e. guns c ∙ all-on e, λ e. grey-of-guns c ∙ ap greyOf e
     all-on e = omega arith
 
 -- Of equal guns it is 17 times what each has.
-pub even : (c : ℕ) → greenGun c ≡ redGun c → blueGun c ≡ redGun c → greyOf c ≡ 17 * redGun c
-even c green blue = omega arith
+pub equal-guns : (c : ℕ) → greenGun c ≡ redGun c → blueGun c ≡ redGun c → greyOf c ≡ 17 * redGun c
+equal-guns c green blue = omega arith
