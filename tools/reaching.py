@@ -64,7 +64,7 @@ class Specs:
 
     def __init__(self):
         self.files, self.wrong = {}, set()
-        self.contracts = {}  # by the contract's module, the definitions that the call ensures something by; empty where nobody asks
+        self.contracts = {}  # by a contract's module, the definitions that its call names; empty unless a tool follows contracts too
 
     def file(self, module):
         if module not in self.files:
@@ -74,8 +74,8 @@ class Specs:
         return self.files[module]
 
     def found(self, module, name, by):
-        """The definition that a use means, followed through what files pass on; nothing for the kit's, for types that the source
-        declares, and for the contracts of functions, which have no file."""
+        """The definition that a use means, followed through what files pass on; nothing for the kit's and for types that the
+        source declares. A contract has no file, and is its name alone."""
         own = module if "/" in module else place(module)
         if not own or "/specs/declared" in own:
             return None
@@ -128,8 +128,8 @@ def statement(name, body):
 def theorems(specs):
     """Each public theorem of claims, with the definitions that it speaks of."""
     start = "crates/claims/proofs"
-    for name in sorted(os.listdir(start)) if os.path.isdir(start) else []:
-        file = specs.file(f"claims/proofs/{name[:-5]}")
+    for entry in sorted(os.listdir(start)) if os.path.isdir(start) else []:
+        file = specs.file(f"claims/proofs/{entry[:-5]}")
         for own, body in file.bodies.items():
             if re.search(r"(?:^| )pub ", body):
                 name = Name(file.module, own)
