@@ -69,6 +69,7 @@ extern "C" {
 #define VOM_REFUSED_FULL 16 /* load into a full queue, or with its count at its largest */
 #define VOM_REFUSED_EMPTY 17 /* read from an empty queue */
 #define VOM_REFUSED_WORD_INDEX 18 /* a word index outside the list */
+#define VOM_REFUSED_SYNC_WIDTH 19 /* the cursor is on, and 6 * HS is below 5 * the pixel rate in MHz */
 
 /* One of the chip's queues. Its depth is 8 words for video, else 4. */
 typedef struct vom_queue {
@@ -98,50 +99,52 @@ uint64_t vom_load(uint32_t *values, size_t values_len, uint8_t *written, size_t 
 /* Applies one word. Refusals: 13 (record), 2 (detail 0). Writes as vom_load does. */
 uint64_t vom_load_word(uint32_t *values, size_t values_len, uint8_t *written, size_t written_len, uint32_t word);
 
-/* Judges a record for pictures. Refusals: 13 (record), 3 (detail: the lowest address) to 9, 13 (`setting` shorter than
- * 21). Writes 21 numbers to `setting`: N, HS, BS, DS, DE, BE, CX; V, VS, VBS, VDS, VDE, VBE, VCS, VCE; the depth;
- * display, border, cursor on (1 or 0); the video words and the cursor words that a frame needs. */
+/* Judges a record for pictures. Refusals: 13 (record), 3 (detail: the lowest address) to 6, 19, 7 to 9, 13 (`setting`
+ * shorter than 21). Writes 21 numbers to `setting`: N, HS, BS, DS, DE, BE, CX; V, VS, VBS, VDS, VDE, VBE, VCS, VCE;
+ * the depth; display, border, cursor on (1 or 0); the video words and the cursor words that a frame needs. */
 uint64_t vom_check(const uint32_t *values, size_t values_len, const uint8_t *written, size_t written_len,
                    uint32_t *setting, size_t setting_len);
 
 /* Judges a record for sound. Refusals: 13 (record), 3, 10 (detail: the lowest address). Writes nothing. */
 uint64_t vom_check_sound(const uint32_t *values, size_t values_len, const uint8_t *written, size_t written_len);
 
-/* Paints a frame. Refusals: 13 (record), 3 to 9, 11, 13 (`cells` shorter than N * V). Writes N * V cells, raster
- * after raster, each its code * 8192 + its 13-bit colour. */
+/* Paints a frame. Refusals: 13 (record), 3 to 6, 19, 7 to 9, 11, 13 (`cells` shorter than N * V). Writes N * V cells,
+ * raster after raster, each its code * 8192 + its 13-bit colour. */
 uint64_t vom_frame(const uint32_t *values, size_t values_len, const uint8_t *written, size_t written_len,
                    const uint32_t *video, size_t video_len, const uint32_t *cursor, size_t cursor_len,
                    uint16_t *cells, size_t cells_len);
 
-/* Paints raster y of that frame. Refusals: 13 (record), 3 to 9, 11, 12, 13 (`cells` shorter than N). Writes N cells. */
+/* Paints raster y of that frame. Refusals: 13 (record), 3 to 6, 19, 7 to 9, 11, 12, 13 (`cells` shorter than N).
+ * Writes N cells. */
 uint64_t vom_raster(const uint32_t *values, size_t values_len, const uint8_t *written, size_t written_len,
                     const uint32_t *video, size_t video_len, const uint32_t *cursor, size_t cursor_len, uint16_t y,
                     uint16_t *cells, size_t cells_len);
 
-/* Where the words of raster y stand in `video`. Refusals: 13 (record), 3 to 9, 11 (video words alone), 12, 13 (`place`
- * shorter than 2). Writes the index of the first word and how many there are to `place`: 0 and 0 where the raster
- * is not displayed. */
+/* Where the words of raster y stand in `video`. Refusals: 13 (record), 3 to 6, 19, 7 to 9, 11 (video words alone), 12,
+ * 13 (`place` shorter than 2). Writes the index of the first word and how many there are to `place`: 0 and 0 where the
+ * raster is not displayed. */
 uint64_t vom_raster_words(const uint32_t *values, size_t values_len, const uint8_t *written, size_t written_len,
                           const uint32_t *video, size_t video_len, uint16_t y, uint64_t *place, size_t place_len);
 
 /* Counts the display cells (code 5) of the frame whose grey reaches the threshold. Refusals: 13 (record),
- * 3 to 9, 11. Writes one number to `count`. */
+ * 3 to 6, 19, 7 to 9, 11. Writes one number to `count`. */
 uint64_t vom_marks(const uint32_t *values, size_t values_len, const uint8_t *written, size_t written_len,
                    const uint32_t *video, size_t video_len, const uint32_t *cursor, size_t cursor_len,
                    uint8_t threshold, uint64_t *count);
 
 /* An entry for each displayed raster, from VDS to before VDE; none where the display is off. It is three numbers: how
  * many of the raster's display cells (code 5) have a grey that reaches the threshold, and the least and the greatest
- * grey of its display cells; 0, 255 and 0 where it has none. Refusals: 13 (record), 3 to 9, 11, 13 (`entries` shorter
- * than three numbers for each displayed raster). Writes those numbers to `entries`, entry after entry. */
+ * grey of its display cells; 0, 255 and 0 where it has none. Refusals: 13 (record), 3 to 6, 19, 7 to 9, 11, 13
+ * (`entries` shorter than three numbers for each displayed raster). Writes those numbers to `entries`, entry after
+ * entry. */
 uint64_t vom_summaries(const uint32_t *values, size_t values_len, const uint8_t *written, size_t written_len,
                        const uint32_t *video, size_t video_len, const uint32_t *cursor, size_t cursor_len,
                        uint8_t threshold, uint16_t *entries, size_t entries_len);
 
-/* Replaces one word of `video` and keeps `entries` right, at the cost of one raster. Refusals: 13 (record), 3 to 9, 11,
- * 18 (`index` is not below video_len), 13 (`entries` as for vom_summaries). Writes the word to `video` at `index`, and
- * to `entries` the entry of the raster that the word belongs to, as vom_summaries makes it of the changed list; every
- * other word and number stays as it was, right or not. */
+/* Replaces one word of `video` and keeps `entries` right, at the cost of one raster. Refusals: 13 (record), 3 to 6, 19,
+ * 7 to 9, 11, 18 (`index` is not below video_len), 13 (`entries` as for vom_summaries). Writes the word to `video` at
+ * `index`, and to `entries` the entry of the raster that the word belongs to, as vom_summaries makes it of the changed
+ * list; every other word and number stays as it was, right or not. */
 uint64_t vom_replace(const uint32_t *values, size_t values_len, const uint8_t *written, size_t written_len,
                      uint32_t *video, size_t video_len, const uint32_t *cursor, size_t cursor_len, uint8_t threshold,
                      size_t index, uint32_t word, uint16_t *entries, size_t entries_len);

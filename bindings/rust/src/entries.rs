@@ -26,7 +26,7 @@ impl Entry {
 
 #[rustfmt::skip] // a pointer and its length on one line
 impl Record {
-    /// The entries of the displayed rasters, in order from VDS on; none where the display is off. Refusals: 3 to 9, 11.
+    /// The entries of the displayed rasters, in order from VDS on; none where the display is off. Refusals: 3 to 6, 19, 7 to 9, 11.
     pub fn summaries(&self, video: &[u32], cursor: &[u32], threshold: u8) -> Result<Vec<Entry>, Refusal> {
         let setting = self.check()?;
         let mut entries = vec![Entry::EMPTY; setting.vde.saturating_sub(setting.vds) as usize];
@@ -34,7 +34,7 @@ impl Record {
         Ok(entries)
     }
 
-    /// As [`Record::summaries`], the entries at the start of `entries`. Refusals: 3 to 9, 11, 13.
+    /// As [`Record::summaries`], the entries at the start of `entries`. Refusals: 3 to 6, 19, 7 to 9, 11, 13.
     pub fn summaries_into(
         &self, video: &[u32], cursor: &[u32], threshold: u8, entries: &mut [Entry],
     ) -> Result<(), Refusal> {
@@ -53,7 +53,7 @@ impl Record {
 
     /// Puts `word` into `video` at `index`, and the new entry of the raster that it belongs to into `entries`, which
     /// costs one raster and not a frame. All other words and entries stay as they were, right or not. Entries that
-    /// [`Record::summaries`] made, with the same cursor words and threshold, stay right so. Refusals: 3 to 9, 11, 18, 13.
+    /// [`Record::summaries`] made, with the same cursor words and threshold, stay right so. Refusals: 3 to 6, 19, 7 to 9, 11, 18, 13.
     ///
     /// ```
     /// # use vombelishi::{plate, Entry, Record, Refusal};

@@ -49,7 +49,7 @@ impl Record {
         answer(unsafe { vom_load_word(self.values.as_mut_ptr(), 64, self.written.as_mut_ptr(), 64, word) })
     }
 
-    /// Judges the record for pictures. Refusals: 3 to 9.
+    /// Judges the record for pictures. Refusals: 3 to 6, 19, 7 to 9.
     pub fn check(&self) -> Result<Setting, Refusal> {
         let mut numbers = [0; Setting::NUMBERS];
         self.check_into(&mut numbers)?;
@@ -57,7 +57,7 @@ impl Record {
     }
 
     /// As [`Record::check`], the 21 numbers of [`Setting`], in its order, at the start of `setting`; what is on is 1,
-    /// what is off 0. Refusals: 3 to 9, 13.
+    /// what is off 0. Refusals: 3 to 6, 19, 7 to 9, 13.
     pub fn check_into(&self, setting: &mut [u32]) -> Result<(), Refusal> {
         // SAFETY: see `calls`.
         answer(unsafe {
@@ -76,7 +76,7 @@ impl Record {
     }
 
     /// Paints a frame: N * V cells at the start of `cells`, raster after raster, each its code * 8192 + its 13-bit
-    /// colour. Refusals: 3 to 9, 11, 13.
+    /// colour. Refusals: 3 to 6, 19, 7 to 9, 11, 13.
     pub fn frame(&self, video: &[u32], cursor: &[u32], cells: &mut [u16]) -> Result<(), Refusal> {
         // SAFETY: see `calls`.
         answer(unsafe {
@@ -90,7 +90,7 @@ impl Record {
         })
     }
 
-    /// Paints raster `y` of that frame: N cells at the start of `cells`. Refusals: 3 to 9, 11, 12, 13.
+    /// Paints raster `y` of that frame: N cells at the start of `cells`. Refusals: 3 to 6, 19, 7 to 9, 11, 12, 13.
     pub fn raster(&self, video: &[u32], cursor: &[u32], y: u16, cells: &mut [u16]) -> Result<(), Refusal> {
         // SAFETY: see `calls`.
         answer(unsafe {
@@ -106,7 +106,7 @@ impl Record {
     }
 
     /// The words of raster `y`, as that stretch of `video` itself; empty where the raster is not displayed.
-    /// Refusals: 3 to 9, 11 (for the video words alone), 12.
+    /// Refusals: 3 to 6, 19, 7 to 9, 11 (for the video words alone), 12.
     pub fn raster_words<'v>(&self, video: &'v [u32], y: u16) -> Result<&'v [u32], Refusal> {
         let mut place = [0; 2];
         self.raster_words_into(video, y, &mut place)?;
@@ -115,7 +115,7 @@ impl Record {
     }
 
     /// As [`Record::raster_words`], the index of the first word and how many there are at the start of `place`: 0 and
-    /// 0 where the raster is not displayed. Refusals: 3 to 9, 11, 12, 13.
+    /// 0 where the raster is not displayed. Refusals: 3 to 6, 19, 7 to 9, 11, 12, 13.
     pub fn raster_words_into(&self, video: &[u32], y: u16, place: &mut [u64]) -> Result<(), Refusal> {
         // SAFETY: see `calls`.
         answer(unsafe {
@@ -129,7 +129,7 @@ impl Record {
         })
     }
 
-    /// Counts the display cells (code 5) of the frame whose grey reaches the threshold. Refusals: 3 to 9, 11.
+    /// Counts the display cells (code 5) of the frame whose grey reaches the threshold. Refusals: 3 to 6, 19, 7 to 9, 11.
     pub fn marks(&self, video: &[u32], cursor: &[u32], threshold: u8) -> Result<u64, Refusal> {
         let mut count = 0;
         // SAFETY: see `calls`.

@@ -13,7 +13,7 @@ pub struct Refusal {
 }
 
 /// The table's rows: number, and when it is given.
-const RULES: [(u32, &str); 18] = [
+const RULES: [(u32, &str); 19] = [
     (1, "more than 1,024 register words"),
     (2, "a reserved address"),
     (3, "a needed register is unwritten"),
@@ -32,6 +32,7 @@ const RULES: [(u32, &str); 18] = [
     (16, "load into a full queue, or with its count at its largest"),
     (17, "read from an empty queue"),
     (18, "a word index outside the list"),
+    (19, "the cursor is on, and 6 * HS is below 5 * the pixel rate in MHz"),
 ];
 
 impl Refusal {

@@ -14,7 +14,7 @@ pub fn words_wrong(s: Setting, video: &[u32], cursor: &[u32]) -> bool
     (video.len() as u64 != s.video_words()) | (cursor.len() as u64 != s.cursor_words())
 }
 
-// The setting of a record whose picture has the words it needs. Refusals 3 to 9, 11.
+// The setting of a record whose picture has the words it needs. Refusals: the setting's, 11.
 pub fn judge(g: Registers, video: &[u32], cursor: &[u32]) -> Checked
     ensures { λ r. ⌜ checkSays r ≡ pictureTold g (now (video .entry)) (now (cursor .entry)) ⌝ }
 {

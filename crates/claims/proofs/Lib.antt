@@ -16,5 +16,6 @@ pub mod Demands
 pub mod PerRaster
 pub mod Printed
 pub mod Cases
+pub mod Sync
 pub mod SmallText
 pub mod Coincide

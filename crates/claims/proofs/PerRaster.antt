@@ -1,20 +1,21 @@
 -- Marks per raster, of every run that the two calls' own promises permit: each entry, their sum, a raster that the cursor covers, one word
 -- replaced, 18 exactly when, and that kept entries never drift. And that there are such runs.
 use Prim.Native.Nat.{ℕ, zero, suc, _+_, _*_, _/_, _%_, _<_, _≤_}
-use mathlib.Core.Bool.{Bool, true, false, _&&_, not}
+use mathlib.Core.Bool.{true, false, not}
 use mathlib.Core.List.{List, [], _∷_, _++_}
 use mathlib.Core.Logic.{_↔_, _≢_, inl, inr}
 use mathlib.Core.Path.{_≡_, refl, sym, _∙_, ap}
 use native.Mathlib.Omega.{arith}
-use borrow.Author.Tests.{ltb-true, eq-eqb, ne-eqb}
+use borrow.Author.Tests.{eq-eqb, ne-eqb}
 use lib.Dec.{ltb, eqb}
 use lib.ListN.{length, getD, set}
 use Rattle.buffers.proofs.Paints.{Paints, length-painted, paints-of}
 use Rattle.buffers.proofs.Split.{lt-or-le}
-use Rattle.buffers.proofs.Tests.{and-split, no}
+use Rattle.buffers.proofs.Tests.{and-split, or-neither, no}
 use Rattle.refusals.specs.Table.{Told, Why, why, given, refused, row}
 use Rattle.refusals.specs.declared.Answer.the-variants.{Done}
 use Rattle.refusals.proofs.Tables.{passes-first, passes-given}
+use Rattle.registers.specs.Record.{oneOf}
 use Rattle.registers.specs.Setting.{settingOf}
 use Rattle.registers.specs.declared.record.Registers.{Registers}
 use Rattle.registers.specs.declared.setting.Setting.{Setting}
@@ -168,15 +169,10 @@ entry-replaced κs a x s p e =
     }
 
 -- 18 exactly when: the picture is given, and the index is not below the length of its list. No row of the picture answers 18.
-allBelow : ℕ → List ℕ → Bool
-allBelow n [] = true
-allBelow n (m ∷ ms) = ltb m n && allBelow n ms
-
-none-below : (n : ℕ) (ms : List ℕ) → allBelow n ms ≡ true → OneOf n ms → ⊥
-unfolding allBelow
-none-below n [] e o = o
-none-below n (m ∷ ms) e (inl q) = omega (arith, q, ltb-true m n (and-split (ltb m n) (allBelow n ms) e .0))
-none-below n (m ∷ ms) e (inr o) = none-below n ms (and-split (ltb m n) (allBelow n ms) e .1) o
+none-of : (n : ℕ) (ms : List ℕ) → oneOf ms n ≡ false → OneOf n ms → ⊥
+none-of n [] e o = o
+none-of n (m ∷ ms) e (inl q) = no (sym (or-neither (eqb m n) (oneOf ms n) e .0) ∙ eq-eqb m n (sym q))
+none-of n (m ∷ ms) e (inr o) = none-of n ms (or-neither (eqb m n) (oneOf ms n) e .1) o
 
 -- What a refusal carries; nothing where there is none.
 whyTold : Told (Unit {0}) → Why
@@ -188,9 +184,8 @@ numberTold t = whyTold t .number
 
 module _ (g : Registers) (video cursor : List ℕ) (index : ℕ) (before : List ℕ) where
   not-the-picture : pictureTold g video cursor ≢ refused (why 18 0)
-  unfolding allBelow
   not-the-picture e =
-      none-below 18 (settingNumbers ++ (11 ∷ [])) refl
+      none-of 18 (settingNumbers ++ (11 ∷ [])) refl
       (by-table (settingOf g) (pictureTable g video cursor) (picture-told g video cursor) .refused-with (why 18 0) e)
 
   outside : (t : Told Setting) → pictureTold g video cursor ≡ t → replaceTold g video cursor index (length before) ≡ refused (why 18 0)

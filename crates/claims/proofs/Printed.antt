@@ -1,8 +1,8 @@
--- Demand 1 for a plate that is taken apart, printed or played: its refusals, in the order 14, 1, 2, 13 of a file, and of standard input 15, 14, 1 to 9, 11
--- or 15, 14, 1, 2, 3, 10, and what is written of it then. What is written of a plate is what is written of its own record and lists.
+-- Demand 1 for a plate that is taken apart, printed or played: its refusals, in the order 14, 1, 2, 13 of a file, and of standard input 15, 14, 1, 2,
+-- then the setting's and 11, or 3 and 10, and what is written of it then. What is written of a plate is what is written of its own record and lists.
 use Prim.Native.Nat.{ℕ}
 use mathlib.Core.Path.{_≡_, refl, _∙_, ap}
-use mathlib.Core.List.{List, [], _∷_}
+use mathlib.Core.List.{List, [], _∷_, _++_}
 use native.Mathlib.Omega.{arith}
 use lib.ListN.{length}
 use lib.Dec.{eqb}
@@ -22,7 +22,7 @@ use Rattle.outputs.specs.Sheet.{sheetTable, sheetTold}
 use Rattle.outputs.specs.Text.{refusedLine, pictureLine, lineBy, lineAt, firstLines, textBy, pictureText, textOf}
 use Rattle.outputs.specs.Strip.{pictureStrip, stripBy, stripAt, firstStrips, pictureBy, pictureOf}
 use Rattle.outputs.specs.Wave.{waveTable, waveTold, waveOf, refusalBy, soundRefusal, waveBlock, blockBy, blockAt}
-use Rattle.claims.specs.Calls.{Every, numbers, ByTable, Kept}
+use Rattle.claims.specs.Calls.{Every, numbers, settingNumbers, ByTable, Kept}
 use Rattle.claims.specs.Views as call
 use Rattle.claims.specs.Views.{PictureLists, SoundWords, PieceRun, TakeRun}
 use Rattle.claims.specs.Pieces.{Stored, StoredBy, tableOf}
@@ -39,7 +39,7 @@ input-numbers file = refl
 pub wave-numbers : (file : List ℕ) → numbers (waveTable file) ≡ 15 ∷ 14 ∷ 1 ∷ 2 ∷ 3 ∷ 10 ∷ []
 wave-numbers file = refl
 
-pub sheet-numbers : (file : List ℕ) → numbers (sheetTable file) ≡ 15 ∷ 14 ∷ 1 ∷ 2 ∷ 3 ∷ 4 ∷ 5 ∷ 6 ∷ 7 ∷ 8 ∷ 9 ∷ 11 ∷ []
+pub sheet-numbers : (file : List ℕ) → numbers (sheetTable file) ≡ 15 ∷ 14 ∷ 1 ∷ 2 ∷ (settingNumbers ++ (11 ∷ []))
 sheet-numbers file = refl
 
 -- A plate is taken apart, or refused by its table, and then nothing changes.

@@ -47,7 +47,7 @@ numbers (r ∷ rs) = r .tells .number ∷ numbers rs
 
 -- Those of the setting's table, with which the tables of picture calls begin.
 abbrev pub settingNumbers : List ℕ
-settingNumbers = 3 ∷ 4 ∷ 5 ∷ 6 ∷ 7 ∷ 8 ∷ 9 ∷ []
+settingNumbers = 3 ∷ 4 ∷ 5 ∷ 6 ∷ 19 ∷ 7 ∷ 8 ∷ 9 ∷ []
 
 abbrev pub OneOf : ℕ → List ℕ → Type 0
 OneOf n [] = ⊥

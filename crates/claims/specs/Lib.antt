@@ -10,4 +10,5 @@ pub mod CRows
 pub mod CViews
 pub mod Lent
 pub mod Marked
+pub mod Sync
 pub mod SmallText

@@ -26,7 +26,7 @@ mod quads;
 mod rows;
 mod units;
 
-// All N·V cells of a frame, raster after raster; the lent cells beyond are untouched. Refusals 3 to 9, 11, 13.
+// All N·V cells of a frame, raster after raster; the lent cells beyond are untouched. Refusals: the setting's, 11, 13.
 pub fn frame(g: Registers, video: &[u32], cursor: &[u32], out: &mut [u16]) -> Answer
     ensures { λ r. ⌜ (answerSays r ≡ frameTold g (now (video .entry)) (now (cursor .entry)) (length (now (out .entry))))
         × (now (out .exit) ≡ frameLeaves g (now (video .entry)) (now (cursor .entry)) (now (out .entry))) ⌝ }
@@ -38,7 +38,7 @@ pub fn frame(g: Registers, video: &[u32], cursor: &[u32], out: &mut [u16]) -> An
     }
 }
 
-// The N cells of raster y. Refusals 3 to 9, 11, 12, 13.
+// The N cells of raster y. Refusals: the setting's, 11, 12, 13.
 pub fn raster(g: Registers, video: &[u32], cursor: &[u32], y: Rasters, out: &mut [u16]) -> Answer
     ensures { λ r. ⌜ (answerSays r ≡ rasterTold g (now (video .entry)) (now (cursor .entry)) (y .0) (length (now (out .entry))))
         × (now (out .exit) ≡ rasterLeaves g (now (video .entry)) (now (cursor .entry)) (y .0) (now (out .entry))) ⌝ }

@@ -33,6 +33,12 @@ fn put_width(line: Line, s: Setting) -> Line {
     put_depth(line.text(b", DS ").small(s.ds.0).text(b", "), s.depth)
 }
 
+fn put_sync_width(line: Line, s: Setting, rate: u8) -> Line {
+    let line = line.text(b"cursor on, and 6 x HS below 5 x the pixel rate: HS ")
+        .small(s.hs.0);
+    line.text(b", ").number(rate as u64).text(b" MHz")
+}
+
 fn put_reserved(line: Line, words: &[u32], index: u32) -> Line {
     let k = index as usize;
     let line = line.text(b"word ")
@@ -53,7 +59,7 @@ fn put_wrong_sound(line: Line, address: u32) -> Line {
     line.text(b" is 0")
 }
 
-// The rule of a refusal that says no more; 12, 13 and those from 16 on are of calls that are not made here.
+// The rule of a refusal that says no more; 12, 13 and 16 to 18 are of calls that are not made here.
 fn put_plain_rule(line: Line, number: u32) -> Line {
     match number {
         1 => line.text(b"over 1,024 register words"),
@@ -68,12 +74,14 @@ fn put_plain_rule(line: Line, number: u32) -> Line {
 }
 
 // The rule that a refusal stands for, with what broke it.
-fn put_rule(line: Line, why: Refusal, s: Setting, words: &[u32]) -> Line {
+fn put_rule(line: Line, why: Refusal, g: Registers, words: &[u32]) -> Line {
+    let s = g.setting();
     match why {
         Refusal::Reserved(index) => put_reserved(line, words, index),
         Refusal::Unwritten(address) => put_register(line, address).text(b" was never written"),
         Refusal::Sound(address) => put_wrong_sound(line, address),
         Refusal::Horizontal => put_horizontal(line, s),
+        Refusal::SyncWidth => put_sync_width(line, s, g.pixel_rate()),
         Refusal::Vertical => put_vertical(line, s),
         Refusal::Width => put_width(line, s),
         _ => put_plain_rule(line, why.number()),
@@ -91,7 +99,7 @@ pub fn print_verdict(judged: &[u8], answer: Answer, g: Registers, words: &[u32])
                 .text(b" ")
                 .number(why.detail() as u64)
                 .text(b": ");
-            put_rule(line, why, g.setting(), words).print()
+            put_rule(line, why, g, words).print()
         }
     }
 }

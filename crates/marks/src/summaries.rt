@@ -62,7 +62,7 @@ fn put_summaries(
     Answer::Done
 }
 
-// The entries made afresh, three numbers to a displayed raster; the lent numbers beyond are untouched. Refusals 3 to 9, 11, 13.
+// The entries made afresh, three numbers to a displayed raster; the lent numbers beyond are untouched. Refusals: the setting's, 11, 13.
 pub fn summaries(
     g: Registers,
     video: &[u32],
@@ -110,7 +110,7 @@ fn put_word(
     Answer::Done
 }
 
-// One video word replaced, and the entry of its raster made afresh; no other changes. Refusals 3 to 9, 11, 18, 13.
+// One video word replaced, and the entry of its raster made afresh; no other changes. Refusals: the setting's, 11, 18, 13.
 pub fn replace(
     g: Registers,
     video: &mut [u32],

@@ -1,4 +1,4 @@
--- A plate file as the printer judges it: 15, 14, 1, 2, then its picture, 3 to 9, 11. Sound is not judged here.
+-- A plate file as the printer judges it: 15, 14, 1, 2, then the setting's refusals and 11 for its picture. Sound is not judged here.
 use Prim.Native.Nat.{ℕ}
 use mathlib.Core.List.{List, _++_}
 use Rattle.refusals.specs.Table.{Told, Row, judged}

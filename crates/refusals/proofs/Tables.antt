@@ -1,12 +1,14 @@
 -- How a table answers: the first row whose test holds, and what was asked for exactly where none does.
 use Prim.Native.Nat.{ℕ}
-use mathlib.Core.Path.{_≡_, refl, sym}
-use mathlib.Core.Bool.{Bool, true, false}
+use mathlib.Core.Path.{_≡_, refl, sym, ap}
+use mathlib.Core.Bool.{Bool, true, false, _&&_, _||_}
 use mathlib.Core.List.{List, [], _∷_, _++_}
 use mathlib.Core.Logic.{inl, inr}
 use native.Mathlib.Omega.{arith}
 use lib.Dec.{eqb}
+use borrow.Author.Tests.{eq-eqb}
 use Rattle.buffers.specs.Pick.{pick}
+use Rattle.buffers.proofs.Tests.{and-join, or-left, or-right, no}
 use Rattle.refusals.specs.Table.{Why, given, refused, Row, judged, andThen, testOf, Passes, First}
 
 -- what was asked for is never a refusal
@@ -67,6 +69,34 @@ module _ {A : Type 0} (a : A) where
   first-refused [] w f = absurd f
   first-refused (r ∷ rs) w (inl f) = rw (f .0, f .1)
   first-refused (r ∷ rs) w (inr f) = rw (f .0) (first-refused rs w (f .1))
+
+-- a row with the number n stands before every row with the number m
+abbrev pub precedes : ℕ → ℕ → List Row → Bool
+precedes n m [] = false
+precedes n m (r ∷ rs) = pick (eqb (r .tells .number) m) false (pick (eqb (r .tells .number) n) true (precedes n m rs))
+
+-- the test of some row with the number n holds
+abbrev pub someTest : ℕ → List Row → Bool
+someTest n [] = false
+someTest n (r ∷ rs) = (eqb (r .tells .number) n && r .when) || someTest n rs
+
+-- where a refusal is given, the rows before those with its number were passed,
+pub first-passed : (n : ℕ) (rows : List Row) (w : Why) → precedes n (w .number) rows ≡ true → First rows w → testOf n rows ≡ false
+first-passed n [] w e f = absurd f
+first-passed n (r ∷ rs) w e (inl f) = absurd (no (rw (eq-eqb _ _ (ap (λ (v : Why). v .number) (f .1))) at e))
+first-passed n (r ∷ rs) w e (inr f) = go (eqb (r .tells .number) (w .number)) (eqb (r .tells .number) n) e (λ h. first-passed n rs w h (f .1))
+  where
+    go : (here there : Bool) → pick here false (pick there true (precedes n (w .number) rs)) ≡ true
+        → (precedes n (w .number) rs ≡ true → testOf n rs ≡ false) → pick there (r .when) (testOf n rs) ≡ false
+    go true there h more = absurd (no h)
+    go false true h more = f .0
+    go false false h more = more h
+
+-- and of these one holds
+pub first-holds : (rows : List Row) (w : Why) → First rows w → someTest (w .number) rows ≡ true
+first-holds [] w f = absurd f
+first-holds (r ∷ rs) w (inl f) = or-left (someTest (w .number) rs) (and-join (eq-eqb _ _ (ap (λ (v : Why). v .number) (f .1))) (f .0))
+first-holds (r ∷ rs) w (inr f) = or-right (eqb (r .tells .number) (w .number) && r .when) (first-holds rs w (f .1))
 
 -- a table judged for one thing, told for another
 pub judged-then : {A B : Type 0} (a : A) (b : B) (rows : List Row) → judged rows b ≡ andThen (judged rows a) (λ _. given b)

@@ -39,6 +39,8 @@ pub enum Refusal {
     Empty,
     // 18: a word index outside the list
     WordIndex,
+    // 19: cursor on, and horizontal sync too short for it
+    SyncWidth,
 }
 
 // The number and the detail of a row.
@@ -67,6 +69,7 @@ impl Refusal {
             Refusal::Full => Numbers(16, 0),
             Refusal::Empty => Numbers(17, 0),
             Refusal::WordIndex => Numbers(18, 0),
+            Refusal::SyncWidth => Numbers(19, 0),
         }
     }
 

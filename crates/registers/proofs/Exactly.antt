@@ -1,31 +1,41 @@
 -- A record is accepted exactly when every rule holds, and the refusal given is that of the first rule broken.
-use Prim.Native.Nat.{ℕ, _<_, _≤_}
+use Prim.Native.Nat.{ℕ, _*_, _<_, _≤_}
 use mathlib.Core.Path.{_≡_, refl, sym, _∙_, ap}
 use mathlib.Core.Bool.{Bool, true, false, _&&_, _||_, not}
 use mathlib.Core.Logic.{_⊎_, inl, inr, _↔_}
 use native.Mathlib.Omega.{arith}
 use lib.Dec.{ltb, leb, eqb}
 use borrow.Author.Tests.{ltb-true, ltb-false, leb-true, eqb-true, not-true, not-false, lt-ltb, le-ltb, le-leb, eq-eqb}
-use Rattle.buffers.proofs.Tests.{and-split, and-join, or-split, or-left, or-right}
+use Rattle.buffers.proofs.Tests.{and-split, and-join, or-split, or-left, or-right, no}
 use Rattle.refusals.specs.Table.{Why, given, refused, Passes, First}
 use Rattle.refusals.proofs.Tables.{_⨾_, passed, passes-given, given-passes, refused-first, first-refused}
 use Rattle.registers.specs.Record.{writtenIn}
+use Rattle.registers.specs.Control.{pixelRate}
 use Rattle.registers.specs.Geometry.{subPosition}
 use Rattle.registers.specs.Setting.{settingOf, displayOn, borderOn}
 use Rattle.registers.specs.Needed.{needed, missing}
 use Rattle.registers.specs.Lowest.{faultAt}
-use Rattle.registers.specs.Check.{horizontalRule, displayRule, borderRule, verticalRule, cursorRule, unwritten, settingTable, checkTold}
+use Rattle.registers.specs.Check.{horizontalRule, syncRule, displayRule, borderRule, verticalRule, cursorRule, unwritten, settingTable, checkTold}
 use Rattle.registers.specs.Rules.{Horizontal, Displayed, Bordered, Vertical, EveryRule}
 use Rattle.registers.specs.declared.record.Registers.{Registers}
 use Rattle.registers.specs.declared.setting.Setting.{Setting}
 use Rattle.registers.specs.declared.lowest.Fault.the-variants.{Unwritten}
 use Rattle.registers.proofs.First.{lowest-passes, lowest-fails}
 
-not-of : {t : Bool} → t ≡ true → not t ≡ false
+pub not-of : {t : Bool} → t ≡ true → not t ≡ false
 not-of e = rw e
 
 not-off : {t : Bool} → t ≡ false → not t ≡ true
 not-off e = rw e
+
+-- what is asked only where something is on
+where-on : (on : Bool) {t : Bool} → not on || t ≡ true → on ≡ true → t ≡ true
+where-on true e h = e
+where-on false e h = absurd (no h)
+
+if-on : (on : Bool) {t : Bool} → (on ≡ true → t ≡ true) → not on || t ≡ true
+if-on true f = f refl
+if-on false f = refl
 
 module _ (s : Setting) where
   pub horizontal-right : horizontalRule s ≡ true → Horizontal s
@@ -42,7 +52,7 @@ module _ (s : Setting) where
         be-n = leb-true _ _ (p .1);
       }
 
-  horizontal-tests : Horizontal s → horizontalRule s ≡ true
+  pub horizontal-tests : Horizontal s → horizontalRule s ≡ true
   horizontal-tests h =
       and-join (and-join (and-join (and-join (le-leb _ _ (h .hs-bs)) (le-leb _ _ (h .bs-ds))) (lt-ltb _ _ (h .ds-de))) (le-leb _ _ (h .de-be)))
       (le-leb _ _ (h .be-n))
@@ -109,13 +119,13 @@ module _ (s : Setting) where
 
 module _ (g : Registers) where
   -- row 3
-  all-written : ltb (unwritten g) 64 ≡ false → (slot : ℕ) → slot < 64 → needed g slot ≡ true → writtenIn g slot ≡ true
+  pub all-written : ltb (unwritten g) 64 ≡ false → (slot : ℕ) → slot < 64 → needed g slot ≡ true → writtenIn g slot ≡ true
   all-written e slot h n =
       let low : 64 ≤ unwritten g = ltb-false _ _ e in
       let f : missing g slot ≡ false = lowest-fails (faultAt g Unwritten) 64 0 slot (omega arith) (omega arith) in
       not-false _ (sym (ap (λ (b : Bool). b && not (writtenIn g slot)) n) ∙ f)
 
-  none-missing : ((slot : ℕ) → slot < 64 → needed g slot ≡ true → writtenIn g slot ≡ true) → ltb (unwritten g) 64 ≡ false
+  pub none-missing : ((slot : ℕ) → slot < 64 → needed g slot ≡ true → writtenIn g slot ≡ true) → ltb (unwritten g) 64 ≡ false
   none-missing all = go (ltb (unwritten g) 64) refl
     where
       go : (b : Bool) → ltb (unwritten g) 64 ≡ b → b ≡ false
@@ -127,22 +137,19 @@ module _ (g : Registers) where
           let w = all (unwritten g) h (p .0) in
           cc (w, not-true (writtenIn g (unwritten g)) (p .1))
 
-  -- where the cursor's test is passed
+  -- the rules that the cursor asks for, each where it is on
+  sync-right : syncRule g (settingOf g) ≡ true → settingOf g .cursor ≡ true → 5 * pixelRate g ≤ 6 * settingOf g .hs .0
+  sync-right e on = leb-true _ _ (where-on (settingOf g .cursor) e on)
+
+  sync-tests : (settingOf g .cursor ≡ true → 5 * pixelRate g ≤ 6 * settingOf g .hs .0) → syncRule g (settingOf g) ≡ true
+  sync-tests h = if-on (settingOf g .cursor) (λ on. le-leb _ _ (h on))
+
   cursor-right : cursorRule g (settingOf g) ≡ true → settingOf g .cursor ≡ true → (subPosition g ≡ 0) × (settingOf g .vce .0 ≤ settingOf g .v .0)
-  cursor-right e on = go (or-split (not (settingOf g .cursor)) _ e)
-    where
-      go : (not (settingOf g .cursor) ≡ true) ⊎ (eqb (subPosition g) 0 && leb (settingOf g .vce .0) (settingOf g .v .0) ≡ true)
-          → (subPosition g ≡ 0) × (settingOf g .vce .0 ≤ settingOf g .v .0)
-      go (inl q) = let z : _≡_ {A = ℕ} 0 1 = cc (not-true (settingOf g .cursor) q) in absurd (omega arith)
-      go (inr q) = let p = and-split _ _ q in (eqb-true _ _ (p .0), leb-true _ _ (p .1))
+  cursor-right e on = let p = and-split _ _ (where-on (settingOf g .cursor) e on) in (eqb-true _ _ (p .0), leb-true _ _ (p .1))
 
   cursor-tests : (settingOf g .cursor ≡ true → (subPosition g ≡ 0) × (settingOf g .vce .0 ≤ settingOf g .v .0))
       → cursorRule g (settingOf g) ≡ true
-  cursor-tests h = go (settingOf g .cursor) refl
-    where
-      go : (b : Bool) → settingOf g .cursor ≡ b → cursorRule g (settingOf g) ≡ true
-      go true e = or-right (not (settingOf g .cursor)) (and-join (eq-eqb _ _ (h e .0)) (le-leb _ _ (h e .1)))
-      go false e = or-left (eqb (subPosition g) 0 && leb (settingOf g .vce .0) (settingOf g .v .0)) (not-off e)
+  cursor-tests h = if-on (settingOf g .cursor) (λ on. and-join (eq-eqb _ _ (h on .0)) (le-leb _ _ (h on .1)))
 
   -- what an accepted record has: no row's test holds, each found by its number
   pub every-rule : (s : Setting) → checkTold g ≡ given s → EveryRule g
@@ -155,6 +162,7 @@ module _ (g : Registers) where
         test-mode = eqb-true _ _ (not-false _ (passed 4 rows p));
         interlace = eqb-true _ _ (not-false _ (passed 5 rows p));
         horizontal = horizontal-right (settingOf g) (not-false _ (passed 6 rows p));
+        sync-width = sync-right (not-false _ (passed 19 rows p));
         vertical = vertical-right (settingOf g) (not-false _ (passed 7 rows p));
         width = eqb-true _ _ (not-false _ (passed 8 rows p));
         cursor = cursor-right (not-false _ (passed 9 rows p));
@@ -171,6 +179,7 @@ module _ (g : Registers) where
       ⨾ not-of (eq-eqb _ _ (h .test-mode))
       ⨾ not-of (eq-eqb _ _ (h .interlace))
       ⨾ not-of (horizontal-tests (settingOf g) (h .horizontal))
+      ⨾ not-of (sync-tests (h .sync-width))
       ⨾ not-of (vertical-tests (settingOf g) (h .vertical))
       ⨾ not-of (eq-eqb _ _ (h .width))
       ⨾ not-of (cursor-tests (h .cursor))

@@ -4,6 +4,7 @@ pub mod First
 pub mod Groups
 pub mod Missing
 pub mod Exactly
+pub mod TooShort
 pub mod Accepted
 pub mod Told
 pub mod Unique

@@ -1,11 +1,11 @@
--- The setting's rules, 3 to 9 of the table, in the paper's words and order.
+-- The setting's rules, 3 to 9 of the table with 19 behind 6, in the paper's words and order.
 use Prim.Native.Nat.{ℕ, _*_, _-_, _%_}
 use mathlib.Core.Bool.{Bool, _&&_, _||_, not}
 use mathlib.Core.List.{List, [], _∷_}
 use lib.Dec.{ltb, leb, eqb}
 use Rattle.refusals.specs.Table.{Told, given, Row, row, judged}
 use Rattle.refusals.specs.Refusals.{refusal}
-use Rattle.registers.specs.Control.{testMode, interlaced}
+use Rattle.registers.specs.Control.{pixelRate, testMode, interlaced}
 use Rattle.registers.specs.Geometry.{subPosition}
 use Rattle.registers.specs.Setting.{settingOf, displayOn, borderOn}
 use Rattle.registers.specs.Lowest.{lowest, faultAt}
@@ -20,6 +20,10 @@ abbrev pub horizontalRule : Setting → Bool
 horizontalRule s =
     leb (s .hs .0) (s .bs .0) && leb (s .bs .0) (s .ds .0) && ltb (s .ds .0) (s .de .0) && leb (s .de .0) (s .be .0)
     && leb (s .be .0) (s .n .0)
+
+-- Where the cursor is on, horizontal sync is long enough for it: 6·HS ≥ 5·f, with HS in pixels and the pixel rate f in MHz.
+abbrev pub syncRule : Registers → Setting → Bool
+syncRule g s = not (s .cursor) || leb (5 * pixelRate g) (6 * s .hs .0)
 
 -- VS ≤ VBS ≤ VDS < VDE ≤ VBE ≤ V.
 abbrev pub displayRule : Setting → Bool
@@ -54,6 +58,7 @@ settingTable g =
     ∷ row 4 (testMode g) 0
     ∷ row 5 (interlaced g) 0
     ∷ row 6 (not (horizontalRule (settingOf g))) 0
+    ∷ row 19 (not (syncRule g (settingOf g))) 0
     ∷ row 7 (not (verticalRule (settingOf g))) 0
     ∷ row 8 (not (widthRule (settingOf g))) 0
     ∷ row 9 (not (cursorRule g (settingOf g))) 0

@@ -3,7 +3,7 @@ use Prim.Native.Nat.{ℕ, _*_, _-_, _%_, _<_, _≤_}
 use mathlib.Core.Path.{_≡_}
 use mathlib.Core.Bool.{true}
 use mathlib.Core.Logic.{_⊎_}
-use Rattle.registers.specs.Control.{control, interlaceField, testField}
+use Rattle.registers.specs.Control.{control, pixelRate, interlaceField, testField}
 use Rattle.registers.specs.Geometry.{subPosition}
 use Rattle.registers.specs.Record.{writtenIn}
 use Rattle.registers.specs.Setting.{settingOf}
@@ -43,10 +43,22 @@ pub record EveryRule (g : Registers) : Type 0 where
   -- 4, 5: control bits 14 and 15 clear, and bit 6
   pub test-mode : testField (control g) ≡ 0
   pub interlace : interlaceField (control g) ≡ 0
-  -- 6, 7
+  -- 6
   pub horizontal : Horizontal (settingOf g)
+  -- 19: where the cursor is on, 6·HS ≥ 5·f
+  pub sync-width : settingOf g .cursor ≡ true → 5 * pixelRate g ≤ 6 * settingOf g .hs .0
+  -- 7
   pub vertical : Vertical (settingOf g)
   -- 8: (DE-DS)·d is a multiple of 32
   pub width : (settingOf g .de .0 - settingOf g .ds .0) * settingOf g .depth % 32 ≡ 0
   -- 9: where the cursor is on, its sub-position is 0 and VCE ≤ V
   pub cursor : settingOf g .cursor ≡ true → (subPosition g ≡ 0) × (settingOf g .vce .0 ≤ settingOf g .v .0)
+
+-- What 19 tells: the rules before it are kept, and with the cursor on 6·HS < 5·f.
+pub record SyncTooShort (g : Registers) : Type 0 where
+  pub written : (slot : ℕ) → slot < 64 → needed g slot ≡ true → writtenIn g slot ≡ true
+  pub test-mode : testField (control g) ≡ 0
+  pub interlace : interlaceField (control g) ≡ 0
+  pub horizontal : Horizontal (settingOf g)
+  pub cursor-on : settingOf g .cursor ≡ true
+  pub too-short : 6 * settingOf g .hs .0 < 5 * pixelRate g

@@ -1,4 +1,4 @@
-// Judging a setting: refusals 3 to 9 in ascending order, or the accepted setting.
+// Judging a setting: refusals 3 to 9 in ascending order with 19 behind 6, or the accepted setting.
 use crate::lowest::Fault;
 use crate::lowest::lowest;
 use crate::record::Registers;
@@ -14,6 +14,7 @@ ghost use Rattle.refusals.specs.Refusals.{refusal, answerSays};
 ghost use Rattle.registers.specs.Check.{
   checkSays,
   horizontalRule,
+  syncRule,
   displayRule,
   borderRule,
   verticalRule,
@@ -93,13 +94,20 @@ impl Setting {
 }
 
 impl Registers {
+    // 6·HS ≥ 5·f where the cursor is on
+    fn is_sync_right(self, s: Setting) -> bool
+        ensures { λ r. ⌜ r ≡ syncRule self s ⌝ }
+    {
+        !s.cursor | (5 * self.pixel_rate() as u32 <= 6 * s.hs.0 as u32)
+    }
+
     fn is_cursor_right(self, s: Setting) -> bool
         ensures { λ r. ⌜ r ≡ cursorRule self s ⌝ }
     {
         !s.cursor | ((self.sub_position() == 0) & (s.vce.0 <= s.v.0))
     }
 
-    // The first refusal of 3 to 9, for the record and its setting. The rows are joined from the last to the first.
+    // The first refusal of 3 to 6, 19, 7 to 9, for the record and its setting. The rows are joined from the last to the first.
     fn judge(self, s: Setting) -> Answer
         requires { ⌜ s ≡ settingOf self ⌝ }
         ensures { λ r. ⌜ answerSays r ≡ judged (settingTable self) tt ⌝ }
@@ -110,13 +118,14 @@ impl Registers {
         let end = refused_if(!self.is_cursor_right(s), Refusal::Cursor, end);
         let end = refused_if(!s.is_width_right(), Refusal::Width, end);
         let end = refused_if(!s.is_vertical_right(), Refusal::Vertical, end);
+        let end = refused_if(!self.is_sync_right(s), Refusal::SyncWidth, end);
         let end = refused_if(!s.is_horizontal_right(), Refusal::Horizontal, end);
         let end = refused_if(self.is_interlaced(), Refusal::Interlace, end);
         let end = refused_if(self.is_test_mode(), Refusal::TestMode, end);
         refused_if(low < Self::SLOTS, Refusal::Unwritten(address), end)
     }
 
-    // The accepted setting, or the first refusal of 3 to 9.
+    // The accepted setting, or the first refusal of 3 to 6, 19, 7 to 9.
     pub fn check(self) -> Checked
         ensures { λ r. ⌜ checkSays r ≡ checkTold self ⌝ }
     {

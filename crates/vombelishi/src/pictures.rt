@@ -9,7 +9,7 @@ ghost use lib.ListN.{length};
 ghost use Rattle.vombelishi.specs.Code.{answerCode};
 ghost use Rattle.vombelishi.specs.Pictures.{frameCall, frameCallLeaves, rasterCall, rasterCallLeaves};
 
-// All N·V cells; 13 for slices shorter than 64, then 3 to 9, 11, 13.
+// All N·V cells; 13 for slices shorter than 64, then the setting's, 11, 13.
 #[no_mangle]
 pub extern "C" fn vom_frame(
     values: &[u32],
@@ -30,7 +30,7 @@ pub extern "C" fn vom_frame(
     answered(frame::frame(record_of(values, written), video, cursor, cells))
 }
 
-// The N cells of raster y; 13 for slices shorter than 64, then 3 to 9, 11, 12, 13.
+// The N cells of raster y; 13 for slices shorter than 64, then the setting's, 11, 12, 13.
 #[no_mangle]
 pub extern "C" fn vom_raster(
     values: &[u32],

@@ -25,7 +25,7 @@ fn find_words(values: &[u32], written: &[u8], video: &[u32], y: u16) -> Found
 }
 
 // The first word of raster y and how many there are: 0 and 0 where it is not displayed.
-// 13 for slices shorter than 64, then 3 to 9, 11 for the video words, 12, then 13 for `place`.
+// 13 for slices shorter than 64, then the setting's, 11 for the video words, 12, then 13 for `place`.
 #[no_mangle]
 pub extern "C" fn vom_raster_words(
     values: &[u32],
@@ -70,7 +70,7 @@ fn count_marks(
     marks::marks(record_of(values, written), video, cursor, threshold)
 }
 
-// The mark count; 13 for slices shorter than 64, then 3 to 9, 11.
+// The mark count; 13 for slices shorter than 64, then the setting's, 11.
 #[no_mangle]
 pub extern "C" fn vom_marks(
     values: &[u32],

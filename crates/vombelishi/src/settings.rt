@@ -83,7 +83,7 @@ fn judge_sound(values: &[u32], written: &[u8]) -> Answer
     record_of(values, written).check_sound()
 }
 
-// The 21 numbers of the setting; 13 for slices shorter than 64, then 3 to 9, then 13 for `setting`.
+// The 21 numbers of the setting; 13 for slices shorter than 64, then the setting's, then 13 for `setting`.
 #[no_mangle]
 pub extern "C" fn vom_check(values: &[u32], written: &[u8], setting: &mut [u32]) -> u64
     ensures { λ r. ⌜

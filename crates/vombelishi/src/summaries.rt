@@ -8,7 +8,7 @@ ghost use lib.ListN.{length};
 ghost use Rattle.vombelishi.specs.Code.{answerCode};
 ghost use Rattle.vombelishi.specs.Summaries.{summariesCall, summariesCallLeaves, replaceCall, videoCallLeaves, replaceCallLeaves};
 
-// Three numbers to a displayed raster; 13 for slices shorter than 64, then 3 to 9, 11, 13.
+// Three numbers to a displayed raster; 13 for slices shorter than 64, then the setting's, 11, 13.
 #[no_mangle]
 pub extern "C" fn vom_summaries(
     values: &[u32],
@@ -36,7 +36,7 @@ pub extern "C" fn vom_summaries(
     ))
 }
 
-// One word, and its raster's three numbers; 13 for slices shorter than 64, then 3 to 9, 11, 18, 13.
+// One word, and its raster's three numbers; 13 for slices shorter than 64, then the setting's, 11, 18, 13.
 #[no_mangle]
 pub extern "C" fn vom_replace(
     values: &[u32],

@@ -1,6 +1,6 @@
 //! Ways to spoil a right record, one rule each.
 
-use crate::make_record::{half_offset, put, put_value, unwrite, value};
+use crate::make_record::{half_offset, least_sync, put, put_value, unwrite, value};
 use crate::random::Random;
 use second::address::*;
 use second::needed::is_needed;
@@ -9,7 +9,7 @@ use second::setting;
 
 type Damage = fn(&mut Random, &mut Record);
 
-const DAMAGES: [Damage; 18] = [
+const DAMAGES: [Damage; 21] = [
     unwrite_one,
     unwrite_one,
     test_mode,
@@ -19,6 +19,9 @@ const DAMAGES: [Damage; 18] = [
     display_not_rising,
     display_past_border_end,
     border_past_line,
+    sync_too_short,
+    sync_too_short,
+    other_rate,
     sync_past_frame,
     sync_past_border_start,
     border_start_past_display,
@@ -86,6 +89,16 @@ fn display_past_border_end(random: &mut Random, record: &mut Record) {
 /// BE > N.
 fn border_past_line(random: &mut Random, record: &mut Record) {
     put_value(record, HCR, value(record, HBER).saturating_sub(1 + random.gap()));
+}
+
+/// One pair less than a cursor is given, or a few.
+fn sync_too_short(random: &mut Random, record: &mut Record) {
+    put_value(record, HSWR, least_sync(record).saturating_sub(1 + random.gap()));
+}
+
+/// A sync that is long enough at one pixel rate may be too short at another.
+fn other_rate(random: &mut Random, record: &mut Record) {
+    put(record, CONTROL, 1, 0, random.between(0, 3));
 }
 
 /// VS > V.

@@ -60,11 +60,12 @@ pub fn ground(random: &mut Random) -> Record {
     record
 }
 
-/// A record that no rule of 3 to 9 refuses.
+/// A record that no rule of a setting refuses.
 pub fn right(random: &mut Random, size: Size) -> Record {
     let mut record = ground(random);
     let depth = put_control(random, &mut record);
-    for (i, v) in horizontal(random, depth, size.hcr).into_iter().enumerate() {
+    let sync = if random.one_in(4) { 0 } else { least_sync(&record) };
+    for (i, v) in horizontal(random, depth, sync, size.hcr).into_iter().enumerate() {
         put_value(&mut record, HCR + 4 * i as u32, v);
     }
     for (i, v) in vertical(random, size.vcr).into_iter().enumerate() {
@@ -96,11 +97,16 @@ pub fn half_offset(depth: u32) -> u32 {
     }
 }
 
-/// HCR, HSWR, HBSR, HDSR, HDER, HBER.
-fn horizontal(random: &mut Random, depth: u32, hcr: Option<u32>) -> [u32; 6] {
+/// HSWR of the shortest sync that a cursor is given: 2v+2 pixels, six times which are no fewer than 5 for each MHz.
+pub fn least_sync(record: &Record) -> u32 {
+    (5 * setting::pixel_rate(record) + 11) / 12 - 1
+}
+
+/// HCR, HSWR, HBSR, HDSR, HDER, HBER, with a sync of no less than is named.
+fn horizontal(random: &mut Random, depth: u32, sync: u32, hcr: Option<u32>) -> [u32; 6] {
     let half = half_offset(depth);
     let pairs_each_word = 16 / depth;
-    let hswr = random.gap();
+    let hswr = sync + random.gap();
     let hbsr = hswr + 1 + random.gap();
     let hdsr = hbsr.saturating_sub(half) + random.gap();
     let most_words = hcr.map_or(3, |hcr| (hcr - half - hdsr) / pairs_each_word);
@@ -176,7 +182,8 @@ fn both_off(random: &mut Random, vcr: u32) -> [u32; 6] {
 
 fn put_cursor(random: &mut Random, record: &mut Record) {
     let vcr = value(record, VCR);
-    if vcr > 0 && !random.one_in(4) {
+    let fits = value(record, HSWR) >= least_sync(record);
+    if vcr > 0 && fits && !random.one_in(4) {
         put_cursor_on(random, record, vcr);
     } else if random.one_in(2) {
         let (vcsr, vcer) = not_rising(random, vcr);

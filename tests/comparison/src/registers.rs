@@ -8,12 +8,20 @@ use crate::make_record::*;
 use crate::ours;
 use crate::random::Random;
 use crate::show;
-use second::address::{is_reserved, VCER, VCSR};
+use second::address::{is_reserved, HSWR, VCER, VCSR};
 use second::load::load;
 use second::record::{load_word, Record};
-use second::refusal::Refusal;
-use second::setting;
+use second::refusal::{Refusal, SYNC_WIDTH};
+use second::setting::{self, Setting};
 use second::sound_judge;
+
+/// A pixel rate, and what is seen at it.
+const SYNC_ENDS: [(u32, &str, &str); 4] = [
+    (8, "setting with a cursor and the shortest sync at 8 MHz", "19 for a sync of one pair less at 8 MHz"),
+    (12, "setting with a cursor and the shortest sync at 12 MHz", "19 for a sync of one pair less at 12 MHz"),
+    (16, "setting with a cursor and the shortest sync at 16 MHz", "19 for a sync of one pair less at 16 MHz"),
+    (24, "setting with a cursor and the shortest sync at 24 MHz", "19 for a sync of one pair less at 24 MHz"),
+];
 
 pub fn load_round(bench: &mut Bench, random: &mut Random) {
     let record = ground(random);
@@ -126,7 +134,20 @@ fn compare_check(bench: &mut Bench, random: &mut Random, record: &Record) {
         bench.see("setting with HS = BS - 1 and DS = BS", s.hs + 1 == s.bs && s.bs == s.ds);
         bench.see("setting with an unneeded palette entry unwritten", !record.is_written(0x3C));
     }
+    see_sync(bench, record, &expected);
     bench.count("check", judged, || format!("record {}", show::record(record)));
+}
+
+/// The two ends of the rule about horizontal sync and the cursor, at each pixel rate.
+fn see_sync(bench: &mut Bench, record: &Record, expected: &Result<Setting, Refusal>) {
+    let pairs = value(record, HSWR);
+    let shortest = expected.as_ref().map_or(false, |s| s.cursor_on) && pairs == least_sync(record);
+    let too_short = expected.as_ref().err().map(|r| r.number) == Some(SYNC_WIDTH) && pairs + 1 == least_sync(record);
+    for (rate, passes, refused) in SYNC_ENDS {
+        let here = setting::pixel_rate(record) == rate;
+        bench.see(passes, here && shortest);
+        bench.see(refused, here && too_short);
+    }
 }
 
 pub fn check_sound_round(bench: &mut Bench, random: &mut Random) {

@@ -43,3 +43,5 @@ mod queue_tests;
 mod rasters_tests;
 #[cfg(test)]
 mod summaries_tests;
+#[cfg(test)]
+mod sync_tests;

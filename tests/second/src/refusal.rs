@@ -24,6 +24,7 @@ pub const TOO_LARGE: u32 = 15;
 pub const FULL: u32 = 16;
 pub const EMPTY: u32 = 17;
 pub const WORD_INDEX: u32 = 18;
+pub const SYNC_WIDTH: u32 = 19;
 
 /// A refusal with detail 0.
 pub fn refusal(number: u32) -> Refusal {

@@ -1,4 +1,4 @@
-//! A setting: the geometry that a record gives, and the checks 3 to 9 in their order.
+//! A setting: the geometry that a record gives, and the checks in their order: 3 to 6, 19, 7 to 9.
 
 use crate::address::*;
 use crate::needed;
@@ -84,13 +84,14 @@ pub fn read(record: &Record) -> Setting {
     }
 }
 
-/// The setting a record gives, or the first of the refusals 3 to 9.
+/// The setting a record gives, or the first of the refusals 3 to 6, 19, 7 to 9 in this order.
 pub fn check(record: &Record) -> Result<Setting, Refusal> {
     let s = read(record);
     needed::judge(record, &s)?;
     refuse_if(record.bits(CONTROL, 15, 14) != 0, TEST_MODE)?;
     refuse_if(record.bits(CONTROL, 6, 6) != 0, INTERLACE)?;
     refuse_if(!s.horizontal_rule(), HORIZONTAL)?;
+    refuse_if(s.cursor_on && !s.sync_lasts_ten_clocks(pixel_rate(record)), SYNC_WIDTH)?;
     refuse_if(!s.vertical_rule(), VERTICAL)?;
     refuse_if((s.de - s.ds) * s.depth % 32 != 0, WIDTH)?;
     let sub_position = record.bits(HCSR, 12, 11);
@@ -105,6 +106,11 @@ impl Setting {
             && self.ds < self.de
             && self.de <= self.be
             && self.be <= self.n
+    }
+
+    /// Ten clocks of the 12 MHz memory clock, at this pixel rate in MHz: HS / f is at least 10 / 12.
+    fn sync_lasts_ten_clocks(&self, rate: u32) -> bool {
+        6 * self.hs >= 5 * rate
     }
 
     fn vertical_rule(&self) -> bool {

@@ -28,11 +28,18 @@ fn two_by_two() -> Record {
     two_rasters(0xB, [15, 10, 13])
 }
 
-/// A cursor, as bright as can be, at x from 6 and on the rasters VCS up to VCE.
-fn with_cursor(record: Record, vcs: u32, vce: u32) -> Record {
+/// A cursor, as bright as can be, at x from 6 and on the rasters VCS up to VCE; the sync stays, long enough for it or not.
+pub fn cursor_alone(record: Record, vcs: u32, vce: u32) -> Record {
     let palette = (1..4).map(|i| word(cursor_entry(i), 0xFFF));
     let place = [word(HCSR, 0), value(VCSR, vcs - 1), value(VCER, vce - 1)];
     palette.chain(place).fold(record, Record::with_word)
+}
+
+/// That cursor with a sync long enough for it: 8 pixels at 8 MHz, the border from 9. The display stays where it was.
+fn with_cursor(record: Record, vcs: u32, vce: u32) -> Record {
+    let control = record.data(CONTROL) / 4 * 4;
+    let sync = [word(CONTROL, control), value(HSWR, 3), value(HBSR, 4)];
+    sync.into_iter().fold(cursor_alone(record, vcs, vce), Record::with_word)
 }
 
 /// The entries, with one number lent beyond them that must stay.
@@ -163,6 +170,7 @@ fn the_setting_comes_before_the_rest() {
         (small().with_word(word(CONTROL, 0x404B)), refusal(4)),
         (small().with_word(word(CONTROL, 0x4B)).with_word(value(HBER, 16)), refusal(5)),
         (small().with_word(value(HBER, 16)).with_word(value(VSWR, 6)), refusal(6)),
+        (cursor_alone(small(), 3, 4).with_word(value(VSWR, 6)), refusal(19)),
         (small().with_word(value(VSWR, 6)).with_word(value(HDER, 5)), refusal(7)),
         (with_cursor(small(), 3, 7).with_word(value(HDER, 5)), refusal(8)),
         (with_cursor(small(), 3, 7), refusal(9)),

@@ -58,6 +58,9 @@ enum-told-14 c = search needs
 enum-told-15 : tie.Need-enum-told-15
 enum-told-15 c = search needs
 
+enum-told-16 : tie.Need-enum-told-16
+enum-told-16 c = search needs
+
 returns : tie.Need-returns
 returns c = rw (c .enum-told .given .1) (refl, refl)
 
@@ -112,6 +115,9 @@ returns-17 c = rw (c .enum-told14 .given .1) (refl, refl)
 returns-18 : tie.Need-returns-18
 returns-18 c = rw (c .enum-told15 .given .1) (refl, refl)
 
+returns-19 : tie.Need-returns-19
+returns-19 c = rw (c .enum-told16 .given .1) (refl, refl)
+
 pub numbers-spec : {M : Type 1} → statement M
 numbers-spec =
     tie.close
@@ -134,6 +140,7 @@ numbers-spec =
     enum-told-13
     enum-told-14
     enum-told-15
+    enum-told-16
     returns
     returns-2
     returns-3
@@ -151,4 +158,5 @@ numbers-spec =
     returns-15
     returns-16
     returns-17
-    returns-18)
+    returns-18
+    returns-19)

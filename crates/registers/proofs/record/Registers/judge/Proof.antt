@@ -34,45 +34,54 @@ is-vertical-right-requires c κs = search needs
 refused-if-requires-3 : tie.Need-refused-if-requires-3
 refused-if-requires-3 c κs = search needs
 
-is-horizontal-right-requires : tie.Need-is-horizontal-right-requires
-is-horizontal-right-requires c κs = search needs
+is-sync-right-requires : tie.Need-is-sync-right-requires
+is-sync-right-requires c κs = search needs
 
 refused-if-requires-4 : tie.Need-refused-if-requires-4
 refused-if-requires-4 c κs = search needs
 
-is-interlaced-requires : tie.Need-is-interlaced-requires
-is-interlaced-requires c κs = search needs
+is-horizontal-right-requires : tie.Need-is-horizontal-right-requires
+is-horizontal-right-requires c κs = search needs
 
 refused-if-requires-5 : tie.Need-refused-if-requires-5
 refused-if-requires-5 c κs = search needs
 
-is-test-mode-requires : tie.Need-is-test-mode-requires
-is-test-mode-requires c κs = search needs
+is-interlaced-requires : tie.Need-is-interlaced-requires
+is-interlaced-requires c κs = search needs
 
 refused-if-requires-6 : tie.Need-refused-if-requires-6
 refused-if-requires-6 c κs = search needs
 
+is-test-mode-requires : tie.Need-is-test-mode-requires
+is-test-mode-requires c κs = search needs
+
 refused-if-requires-7 : tie.Need-refused-if-requires-7
 refused-if-requires-7 c κs = search needs
+
+refused-if-requires-8 : tie.Need-refused-if-requires-8
+refused-if-requires-8 c κs = search needs
 
 returns : tie.Need-returns
 returns c =
     let test-mode = c .before .before in
     let interlace = test-mode .before .before in
     let horizontal = interlace .before .before in
-    let vertical = horizontal .before .before in
+    let sync = horizontal .before .before in
+    let vertical = sync .before .before in
     let width = vertical .before .before in
     let cursor = width .before .before in
     let low = cursor .before in
     simp (
-      c .refused-if7 .ensures,
-      c .before .refused-if6 .ensures,
+      c .refused-if8 .ensures,
+      c .before .refused-if7 .ensures,
       test-mode .is-test-mode .ensures,
-      test-mode .before .refused-if5 .ensures,
+      test-mode .before .refused-if6 .ensures,
       interlace .is-interlaced .ensures,
-      interlace .before .refused-if4 .ensures,
+      interlace .before .refused-if5 .ensures,
       horizontal .is-horizontal-right .ensures,
-      horizontal .before .refused-if3 .ensures,
+      horizontal .before .refused-if4 .ensures,
+      sync .is-sync-right .ensures,
+      sync .before .refused-if3 .ensures,
       vertical .is-vertical-right .ensures,
       vertical .before .refused-if2 .ensures,
       width .is-width-right .ensures,
@@ -95,11 +104,13 @@ judge-spec =
     refused-if-requires-2
     is-vertical-right-requires
     refused-if-requires-3
-    is-horizontal-right-requires
+    is-sync-right-requires
     refused-if-requires-4
-    is-interlaced-requires
+    is-horizontal-right-requires
     refused-if-requires-5
-    is-test-mode-requires
+    is-interlaced-requires
     refused-if-requires-6
+    is-test-mode-requires
     refused-if-requires-7
+    refused-if-requires-8
     returns)

@@ -1,0 +1,71 @@
+-- Horizontal sync and the cursor, of every run that the check's own promise permits: 19 exactly when, and the shortest sync at each pixel rate.
+use Prim.Native.Nat.{ℕ, zero, suc, _+_, _*_, _<_, _≤_}
+use mathlib.Core.Path.{_≡_, refl, sym, _∙_}
+use mathlib.Core.Bool.{true, false}
+use mathlib.Core.List.{[], _∷_}
+use mathlib.Core.Logic.{_↔_, _≢_}
+use native.Mathlib.Omega.{arith}
+use lib.ListN.{getD}
+use Rattle.buffers.proofs.Tests.{no}
+use Rattle.refusals.specs.Table.{why, given, refused}
+use Rattle.registers.specs.Addresses.{HSWR}
+use Rattle.registers.specs.Control.{control, rateField, pixelRate}
+use Rattle.registers.specs.Geometry.{tenBits}
+use Rattle.registers.specs.Record.{reserved, storedOf}
+use Rattle.registers.specs.Load.{applied}
+use Rattle.registers.specs.Lowest.{lowest}
+use Rattle.registers.specs.Setting.{settingOf}
+use Rattle.registers.specs.Check.{checkTold}
+use Rattle.registers.specs.Rules.{SyncTooShort}
+use Rattle.registers.specs.declared.record.Registers.{Registers}
+use Rattle.registers.proofs.TooShort.{too-short-exactly}
+use Rattle.claims.specs.Calls.{Every}
+use Rattle.claims.specs.Views as call
+use Rattle.claims.specs.Marked.{AllHold}
+use Rattle.claims.specs.Sync.{leastSync, syncCases}
+use Rattle.claims.proofs.Cases.{_and_}
+use Rattle.claims.proofs.Demands.{accepted-exactly}
+
+-- 19 exactly when the rules before it are kept, the cursor is on and 6·HS < 5·f.
+pub sync-refused : Every call.check λ run. (run .answer ≡ refused (why 19 0)) ↔ SyncTooShort (run .registers)
+sync-refused κs a x s p =
+    let g = call.check .seen κs a x s .registers in
+    (λ e. too-short-exactly g .0 (sym p ∙ e), λ h. p ∙ too-short-exactly g .1 h)
+
+-- With the cursor off it is never answered.
+pub cursor-off-never : Every call.check λ run. settingOf (run .registers) .cursor ≡ false → run .answer ≢ refused (why 19 0)
+cursor-off-never κs a x s p off e = no (sym off ∙ sync-refused κs a x s p .0 e .cursor-on)
+
+-- Of an even number of pixels, 2v + 2, the rule asks for 8, 10, 14 or 20, by the rate.
+least-even : (choice v : ℕ) → choice < 4
+    → (5 * getD (8 ∷ 12 ∷ 16 ∷ 24 ∷ []) choice 0 ≤ 6 * (2 * v + 2)) ↔ (getD (8 ∷ 10 ∷ 14 ∷ 20 ∷ []) choice 0 ≤ 2 * v + 2)
+least-even zero v h = (λ e. omega (arith, e), λ e. omega (arith, e))
+least-even (suc zero) v h = (λ e. omega (arith, e), λ e. omega (arith, e))
+least-even (suc (suc zero)) v h = (λ e. omega (arith, e), λ e. omega (arith, e))
+least-even (suc (suc (suc zero))) v h = (λ e. omega (arith, e), λ e. omega (arith, e))
+least-even (suc (suc (suc (suc k)))) v h = absurd (omega (arith, h))
+
+pub least-sync : (g : Registers) → (5 * pixelRate g ≤ 6 * settingOf g .hs .0) ↔ (leastSync g ≤ settingOf g .hs .0)
+unfolding settingOf
+least-sync g = least-even (rateField (control g)) (tenBits g HSWR) (omega arith)
+
+-- So an accepted setting with the cursor on has at least that.
+pub accepted-sync : Every call.check λ run. run .answer ≡ given (settingOf (run .registers)) → settingOf (run .registers) .cursor ≡ true
+    → leastSync (run .registers) ≤ settingOf (run .registers) .hs .0
+accepted-sync κs a x s p e on =
+    let g = call.check .seen κs a x s .registers in
+    least-sync g .0 (accepted-exactly κs a x s p .0 e .sync-width on)
+
+-- The request's cases hold, by computation.
+pub all-sync-cases : AllHold syncCases
+unfolding reserved storedOf applied lowest settingOf checkTold
+all-sync-cases =
+    (refl, refl, refl, refl, refl)
+    and (refl, refl, refl, refl, refl)
+    and (refl, refl, refl, refl, refl)
+    and (refl, refl, refl, refl, refl)
+    and (refl, refl)
+    and refl
+    and refl
+    and (refl, refl)
+    and tt
