@@ -83,12 +83,15 @@ static void set(uint32_t depth, const uint32_t x[7], const uint32_t y[8]) {
     keep();
 }
 
+// The longest line there is, with the shortest sync that a cursor is given at 24 MHz.
+static const uint32_t longest[7] = {2048, 20, 21, 25, 2041, 2047, 1000};
+
 void usual(uint32_t depth) {
     set(depth, (uint32_t[]){1024, 72, 127, 201, 841, 941, 500}, (uint32_t[]){312, 3, 20, 30, 286, 300, 100, 132});
 }
 
 void largest(uint32_t depth) {
-    set(depth, (uint32_t[]){2048, 4, 9, 25, 2041, 2047, 1000}, (uint32_t[]){1024, 1, 1, 2, 1023, 1024, 500, 532});
+    set(depth, longest, (uint32_t[]){1024, 1, 1, 2, 1023, 1024, 500, 532});
 }
 
 void low(uint32_t depth) {
@@ -116,7 +119,7 @@ void set_plate(void) {
 void set_text(void) {
     static uint32_t stripes[2046];
     for (size_t i = 0; i < 2046; i++) stripes[i] = 0x11111111;
-    set(1, (uint32_t[]){2048, 4, 9, 25, 2041, 2047, 1000}, (uint32_t[]){1024, 1, 1, 2, 228, 1024, 1, 1024});
+    set(1, longest, (uint32_t[]){1024, 1, 1, 2, 228, 1024, 1, 1024});
     size_t rest = 65536 / 4 - 4 - register_count - pic.video_words - pic.cursor_words;
     if (vom_write(registers, register_count, noise, pic.video_words, stripes, pic.cursor_words, noise, rest, file_out, PLATE,
                   &length) || length != 65536) die("the printer's plate was refused");

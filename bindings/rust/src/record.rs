@@ -43,7 +43,7 @@ impl Record {
         })
     }
 
-    /// Applies one register word. Refusal: 2, with detail 0.
+    /// Applies one register word. Refusal: 2 (detail 0).
     pub fn load_word(&mut self, word: u32) -> Result<(), Refusal> {
         // SAFETY: see `calls`.
         answer(unsafe { vom_load_word(self.values.as_mut_ptr(), 64, self.written.as_mut_ptr(), 64, word) })

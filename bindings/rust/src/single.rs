@@ -21,7 +21,7 @@ pub fn pin(code: u8, control: u32) -> u8 {
 }
 
 /// One byte's left and right value in signed sixths, for a stereo value of which the three lowest bits count.
-/// Refusal: 10, where those bits are 0.
+/// Refusal: 10 (where those bits are 0).
 pub fn sound_pair(byte: u8, stereo: u8) -> Result<[i16; 2], Refusal> {
     let mut pair = [0; 2];
     sound_pair_into(byte, stereo, &mut pair)?;

@@ -181,6 +181,8 @@ fn a_raster_that_the_cursor_covers() {
     let (mut record, video) = two_rasters();
     let cursor = [0x4400_0FFF, 0x4800_0FFF, 0x4C00_0FFF, 0x9800_0000, 0xB800_8000, 0xBC00_C000]; // at 6, raster 3
     record.load(&cursor).unwrap();
+    assert_eq!(record.summaries(&video, &[0; 2], 0), Err(Refusal { number: 19, detail: 0 })); // HS 4 at 24 MHz
+    record.load(&[0xE000_0008, 0x8400_C000, 0x8801_0000]).unwrap(); // HS 8 at 8 MHz, BS 9
     let second = Entry { marks: 8, least: 40, greatest: 40 };
     assert_eq!(record.summaries(&video, &[u32::MAX; 2], 0), Ok(vec![Entry::EMPTY, second]));
     let first = Entry { marks: 7, least: 5, greatest: 35 };
@@ -266,5 +268,6 @@ fn a_refusal_says_number_detail_and_rule() {
     assert_eq!(says(10, 0), "refused 10 0: a stereo value is 0, or the sound frequency is below 3");
     assert_eq!(says(17, 0), "refused 17 0: read from an empty queue");
     assert_eq!(says(18, 0), "refused 18 0: a word index outside the list");
-    assert_eq!(says(19, 0), "refused 19 0: not in the table");
+    assert_eq!(says(19, 0), "refused 19 0: the cursor is on, and 6 * HS is below 5 * the pixel rate in MHz");
+    assert_eq!(says(20, 0), "refused 20 0: not in the table");
 }

@@ -17,10 +17,10 @@ use second::sound_judge;
 
 /// A pixel rate, and what is seen at it.
 const SYNC_ENDS: [(u32, &str, &str); 4] = [
-    (8, "setting with a cursor and the shortest sync at 8 MHz", "19 for a sync of one pair less at 8 MHz"),
-    (12, "setting with a cursor and the shortest sync at 12 MHz", "19 for a sync of one pair less at 12 MHz"),
-    (16, "setting with a cursor and the shortest sync at 16 MHz", "19 for a sync of one pair less at 16 MHz"),
-    (24, "setting with a cursor and the shortest sync at 24 MHz", "19 for a sync of one pair less at 24 MHz"),
+    (8, "8 MHz: 19 for a sync one pair too short", "8 MHz: cursor with the shortest sync"),
+    (12, "12 MHz: 19 for a sync one pair too short", "12 MHz: cursor with the shortest sync"),
+    (16, "16 MHz: 19 for a sync one pair too short", "16 MHz: cursor with the shortest sync"),
+    (24, "24 MHz: 19 for a sync one pair too short", "24 MHz: cursor with the shortest sync"),
 ];
 
 pub fn load_round(bench: &mut Bench, random: &mut Random) {
@@ -142,11 +142,12 @@ fn compare_check(bench: &mut Bench, random: &mut Random, record: &Record) {
 fn see_sync(bench: &mut Bench, record: &Record, expected: &Result<Setting, Refusal>) {
     let pairs = value(record, HSWR);
     let shortest = expected.as_ref().map_or(false, |s| s.cursor_on) && pairs == least_sync(record);
-    let too_short = expected.as_ref().err().map(|r| r.number) == Some(SYNC_WIDTH) && pairs + 1 == least_sync(record);
-    for (rate, passes, refused) in SYNC_ENDS {
+    let refused = expected.as_ref().err().map(|r| r.number);
+    let too_short = refused == Some(SYNC_WIDTH) && pairs + 1 == least_sync(record);
+    for (rate, longest_refused, shortest_passed) in SYNC_ENDS {
         let here = setting::pixel_rate(record) == rate;
-        bench.see(passes, here && shortest);
-        bench.see(refused, here && too_short);
+        bench.see(shortest_passed, here && shortest);
+        bench.see(longest_refused, here && too_short);
     }
 }
 
