@@ -9,7 +9,7 @@ use second::setting;
 
 type Damage = fn(&mut Random, &mut Record);
 
-const DAMAGES: [Damage; 21] = [
+const DAMAGES: [Damage; 19] = [
     unwrite_one,
     unwrite_one,
     test_mode,
@@ -19,8 +19,6 @@ const DAMAGES: [Damage; 21] = [
     display_not_rising,
     display_past_border_end,
     border_past_line,
-    sync_too_short,
-    sync_too_short,
     other_rate,
     sync_past_frame,
     sync_past_border_start,
@@ -35,10 +33,18 @@ const DAMAGES: [Damage; 21] = [
 
 /// One way, sometimes two, so that the order of the refusals shows.
 pub fn damage(random: &mut Random, record: &mut Record) {
-    random.pick(&DAMAGES)(random, record);
+    one_way(random, record);
     while random.one_in(5) {
-        random.pick(&DAMAGES)(random, record);
+        one_way(random, record);
     }
+}
+
+/// The sync that a cursor is given is the most frequent of all, so that its edge is often met.
+fn one_way(random: &mut Random, record: &mut Record) {
+    if random.one_in(6) {
+        return sync_too_short(random, record);
+    }
+    random.pick(&DAMAGES)(random, record);
 }
 
 /// A step up or down in one timing register: the edges of the rules.
