@@ -14,7 +14,7 @@ use Rattle.sound.specs.Pair.{pairTold}
 use Rattle.claims.specs.Marked.{AllHold, markedCases}
 
 infixr 4 _and_
-pub _and_ : {A B : Type 0} → A → B → A × B
+_and_ : {A B : Type 0} → A → B → A × B
 p and q = (p, q)
 
 pub all-marked-cases : AllHold markedCases

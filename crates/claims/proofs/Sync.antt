@@ -8,6 +8,7 @@ use native.Mathlib.Omega.{arith}
 use lib.ListN.{getD}
 use Rattle.buffers.proofs.Tests.{no}
 use Rattle.refusals.specs.Table.{why, given, refused}
+use Rattle.refusals.proofs.Tables.{_⨾_}
 use Rattle.registers.specs.Addresses.{HSWR}
 use Rattle.registers.specs.Control.{control, rateField, pixelRate}
 use Rattle.registers.specs.Geometry.{tenBits}
@@ -18,12 +19,11 @@ use Rattle.registers.specs.Setting.{settingOf}
 use Rattle.registers.specs.Check.{checkTold}
 use Rattle.registers.specs.Rules.{SyncTooShort}
 use Rattle.registers.specs.declared.record.Registers.{Registers}
-use Rattle.registers.proofs.TooShort.{too-short-exactly}
+use Rattle.registers.proofs.Exactly.{too-short-exactly}
 use Rattle.claims.specs.Calls.{Every}
 use Rattle.claims.specs.Views as call
 use Rattle.claims.specs.Marked.{AllHold}
 use Rattle.claims.specs.Sync.{leastSync, syncCases}
-use Rattle.claims.proofs.Cases.{_and_}
 use Rattle.claims.proofs.Demands.{accepted-exactly}
 
 -- 19 exactly when the rules before it are kept, the cursor is on and 6·HS < 5·f.
@@ -61,11 +61,11 @@ pub all-sync-cases : AllHold syncCases
 unfolding reserved storedOf applied lowest settingOf checkTold
 all-sync-cases =
     (refl, refl, refl, refl, refl)
-    and (refl, refl, refl, refl, refl)
-    and (refl, refl, refl, refl, refl)
-    and (refl, refl, refl, refl, refl)
-    and (refl, refl)
-    and refl
-    and refl
-    and (refl, refl)
-    and tt
+    ⨾ (refl, refl, refl, refl, refl)
+    ⨾ (refl, refl, refl, refl, refl)
+    ⨾ (refl, refl, refl, refl, refl)
+    ⨾ (refl, refl)
+    ⨾ refl
+    ⨾ refl
+    ⨾ (refl, refl)
+    ⨾ tt

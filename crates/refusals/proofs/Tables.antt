@@ -80,10 +80,13 @@ abbrev pub someTest : ℕ → List Row → Bool
 someTest n [] = false
 someTest n (r ∷ rs) = (eqb (r .tells .number) n && r .when) || someTest n rs
 
+same-number : {v w : Why} → v ≡ w → eqb (v .number) (w .number) ≡ true
+same-number e = eq-eqb _ _ (ap (λ (v : Why). v .number) e)
+
 -- where a refusal is given, the rows before those with its number were passed,
 pub first-passed : (n : ℕ) (rows : List Row) (w : Why) → precedes n (w .number) rows ≡ true → First rows w → testOf n rows ≡ false
 first-passed n [] w e f = absurd f
-first-passed n (r ∷ rs) w e (inl f) = absurd (no (rw (eq-eqb _ _ (ap (λ (v : Why). v .number) (f .1))) at e))
+first-passed n (r ∷ rs) w e (inl f) = absurd (no (rw (same-number (f .1)) at e))
 first-passed n (r ∷ rs) w e (inr f) = go (eqb (r .tells .number) (w .number)) (eqb (r .tells .number) n) e (λ h. first-passed n rs w h (f .1))
   where
     go : (here there : Bool) → pick here false (pick there true (precedes n (w .number) rs)) ≡ true
@@ -95,7 +98,7 @@ first-passed n (r ∷ rs) w e (inr f) = go (eqb (r .tells .number) (w .number)) 
 -- and of these one holds
 pub first-holds : (rows : List Row) (w : Why) → First rows w → someTest (w .number) rows ≡ true
 first-holds [] w f = absurd f
-first-holds (r ∷ rs) w (inl f) = or-left (someTest (w .number) rs) (and-join (eq-eqb _ _ (ap (λ (v : Why). v .number) (f .1))) (f .0))
+first-holds (r ∷ rs) w (inl f) = or-left (someTest (w .number) rs) (and-join (same-number (f .1)) (f .0))
 first-holds (r ∷ rs) w (inr f) = or-right (eqb (r .tells .number) (w .number) && r .when) (first-holds rs w (f .1))
 
 -- a table judged for one thing, told for another

@@ -1,14 +1,14 @@
--- A record is accepted exactly when every rule holds, and the refusal given is that of the first rule broken.
+-- A record is accepted exactly when every rule holds, and the refusal given is that of the first rule broken; 19 by itself, in plain words.
 use Prim.Native.Nat.{ℕ, _*_, _<_, _≤_}
 use mathlib.Core.Path.{_≡_, refl, sym, _∙_, ap}
 use mathlib.Core.Bool.{Bool, true, false, _&&_, _||_, not}
 use mathlib.Core.Logic.{_⊎_, inl, inr, _↔_}
 use native.Mathlib.Omega.{arith}
 use lib.Dec.{ltb, leb, eqb}
-use borrow.Author.Tests.{ltb-true, ltb-false, leb-true, eqb-true, not-true, not-false, lt-ltb, le-ltb, le-leb, eq-eqb}
-use Rattle.buffers.proofs.Tests.{and-split, and-join, or-split, or-left, or-right, no}
-use Rattle.refusals.specs.Table.{Why, given, refused, Passes, First}
-use Rattle.refusals.proofs.Tables.{_⨾_, passed, passes-given, given-passes, refused-first, first-refused}
+use borrow.Author.Tests.{ltb-true, ltb-false, leb-true, leb-false, eqb-true, not-true, not-false, lt-ltb, le-ltb, lt-leb, le-leb, eq-eqb}
+use Rattle.buffers.proofs.Tests.{and-split, and-join, or-split, or-neither, or-left, or-right, no}
+use Rattle.refusals.specs.Table.{Why, why, given, refused, testOf, Passes, First}
+use Rattle.refusals.proofs.Tables.{_⨾_, passed, passes-given, given-passes, refused-first, first-refused, precedes, first-passed, first-holds}
 use Rattle.registers.specs.Record.{writtenIn}
 use Rattle.registers.specs.Control.{pixelRate}
 use Rattle.registers.specs.Geometry.{subPosition}
@@ -16,13 +16,13 @@ use Rattle.registers.specs.Setting.{settingOf, displayOn, borderOn}
 use Rattle.registers.specs.Needed.{needed, missing}
 use Rattle.registers.specs.Lowest.{faultAt}
 use Rattle.registers.specs.Check.{horizontalRule, syncRule, displayRule, borderRule, verticalRule, cursorRule, unwritten, settingTable, checkTold}
-use Rattle.registers.specs.Rules.{Horizontal, Displayed, Bordered, Vertical, EveryRule}
+use Rattle.registers.specs.Rules.{Horizontal, Displayed, Bordered, Vertical, EveryRule, SyncTooShort}
 use Rattle.registers.specs.declared.record.Registers.{Registers}
 use Rattle.registers.specs.declared.setting.Setting.{Setting}
 use Rattle.registers.specs.declared.lowest.Fault.the-variants.{Unwritten}
 use Rattle.registers.proofs.First.{lowest-passes, lowest-fails}
 
-pub not-of : {t : Bool} → t ≡ true → not t ≡ false
+not-of : {t : Bool} → t ≡ true → not t ≡ false
 not-of e = rw e
 
 not-off : {t : Bool} → t ≡ false → not t ≡ true
@@ -52,7 +52,7 @@ module _ (s : Setting) where
         be-n = leb-true _ _ (p .1);
       }
 
-  pub horizontal-tests : Horizontal s → horizontalRule s ≡ true
+  horizontal-tests : Horizontal s → horizontalRule s ≡ true
   horizontal-tests h =
       and-join (and-join (and-join (and-join (le-leb _ _ (h .hs-bs)) (le-leb _ _ (h .bs-ds))) (lt-ltb _ _ (h .ds-de))) (le-leb _ _ (h .de-be)))
       (le-leb _ _ (h .be-n))
@@ -119,13 +119,13 @@ module _ (s : Setting) where
 
 module _ (g : Registers) where
   -- row 3
-  pub all-written : ltb (unwritten g) 64 ≡ false → (slot : ℕ) → slot < 64 → needed g slot ≡ true → writtenIn g slot ≡ true
+  all-written : ltb (unwritten g) 64 ≡ false → (slot : ℕ) → slot < 64 → needed g slot ≡ true → writtenIn g slot ≡ true
   all-written e slot h n =
       let low : 64 ≤ unwritten g = ltb-false _ _ e in
       let f : missing g slot ≡ false = lowest-fails (faultAt g Unwritten) 64 0 slot (omega arith) (omega arith) in
       not-false _ (sym (ap (λ (b : Bool). b && not (writtenIn g slot)) n) ∙ f)
 
-  pub none-missing : ((slot : ℕ) → slot < 64 → needed g slot ≡ true → writtenIn g slot ≡ true) → ltb (unwritten g) 64 ≡ false
+  none-missing : ((slot : ℕ) → slot < 64 → needed g slot ≡ true → writtenIn g slot ≡ true) → ltb (unwritten g) 64 ≡ false
   none-missing all = go (ltb (unwritten g) 64) refl
     where
       go : (b : Bool) → ltb (unwritten g) 64 ≡ b → b ≡ false
@@ -194,3 +194,44 @@ module _ (g : Registers) where
   pub first-broken : (w : Why) → (checkTold g ≡ refused w) ↔ First (settingTable g) w
   unfolding checkTold
   first-broken w = (refused-first (settingOf g) (settingTable g) w, first-refused (settingOf g) (settingTable g) w)
+
+  -- 19 among them: the rules before it hold, the cursor is on and horizontal sync is too short for it
+  sync-broken : syncRule g (settingOf g) ≡ false → (settingOf g .cursor ≡ true) × (6 * settingOf g .hs .0 < 5 * pixelRate g)
+  sync-broken e = let p = or-neither (not (settingOf g .cursor)) _ e in (not-false _ (p .0), leb-false _ _ (p .1))
+
+  sync-fails : settingOf g .cursor ≡ true → 6 * settingOf g .hs .0 < 5 * pixelRate g → not (syncRule g (settingOf g)) ≡ true
+  sync-fails on short = rw (on, lt-leb (5 * pixelRate g) (6 * settingOf g .hs .0) short)
+
+  told-short : First (settingTable g) (why 19 0) → SyncTooShort g
+  told-short f =
+      let rows = settingTable g in
+      let earlier : (n : ℕ) → precedes n 19 rows ≡ true → testOf n rows ≡ false = λ n e. first-passed n rows (why 19 0) e f in
+      let broken = sync-broken (held (or-split _ _ (first-holds rows (why 19 0) f))) in
+      record {
+        written = all-written (earlier 3 refl);
+        test-mode = eqb-true _ _ (not-false _ (earlier 4 refl));
+        interlace = eqb-true _ _ (not-false _ (earlier 5 refl));
+        horizontal = horizontal-right (settingOf g) (not-false _ (earlier 6 refl));
+        cursor-on = broken .0;
+        too-short = broken .1;
+      }
+    where
+      held : (not (syncRule g (settingOf g)) ≡ true) ⊎ (false ≡ true) → syncRule g (settingOf g) ≡ false
+      held (inl t) = not-true _ t
+      held (inr e) = absurd (no e)
+
+  short-told : SyncTooShort g → First (settingTable g) (why 19 0)
+  short-told h =
+      inr (
+        none-missing (h .written),
+        inr (
+          not-of (eq-eqb _ _ (h .test-mode)),
+          inr (
+            not-of (eq-eqb _ _ (h .interlace)),
+            inr (not-of (horizontal-tests (settingOf g) (h .horizontal)), inl (sync-fails (h .cursor-on) (h .too-short), refl)),
+          ),
+        ),
+      )
+
+  pub too-short-exactly : (checkTold g ≡ refused (why 19 0)) ↔ SyncTooShort g
+  too-short-exactly = (λ e. told-short (first-broken (why 19 0) .0 e), λ h. first-broken (why 19 0) .1 (short-told h))

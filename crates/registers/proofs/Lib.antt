@@ -4,7 +4,6 @@ pub mod First
 pub mod Groups
 pub mod Missing
 pub mod Exactly
-pub mod TooShort
 pub mod Accepted
 pub mod Told
 pub mod Unique
