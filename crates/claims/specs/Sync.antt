@@ -43,7 +43,7 @@ syncCases =
     ∷ EndsAt 1 12 10
     ∷ EndsAt 2 16 14
     ∷ EndsAt 3 24 20
-    -- with the cursor off nothing is asked: the small plate has 4 pixels at 24 MHz; and the same plate with VCE = VCS
+    -- with the cursor off nothing is asked: of the small plate, 4 pixels at 24 MHz, and of the other with 18 and VCE = VCS
     ∷ ((settingOf smallRegisters .hs .0 ≡ 4) × (checkTold smallRegisters ≡ given (settingOf smallRegisters)))
     ∷ (checkTold (storedOf (pointed 3 18) (timing VCER 2)) ≡ given (settingOf (storedOf (pointed 3 18) (timing VCER 2))))
     -- 6 goes before 19: BE past N

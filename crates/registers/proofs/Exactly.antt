@@ -4,7 +4,7 @@ use mathlib.Core.Path.{_≡_, refl, sym, _∙_, ap}
 use mathlib.Core.Bool.{Bool, true, false, _&&_, _||_, not}
 use mathlib.Core.Logic.{_⊎_, inl, inr, _↔_}
 use native.Mathlib.Omega.{arith}
-use lib.Dec.{ltb, leb, eqb}
+use lib.Dec.{ltb}
 use borrow.Author.Tests.{ltb-true, ltb-false, leb-true, leb-false, eqb-true, not-true, not-false, lt-ltb, le-ltb, lt-leb, le-leb, eq-eqb}
 use Rattle.buffers.proofs.Tests.{and-split, and-join, or-split, or-neither, or-left, or-right, no}
 use Rattle.refusals.specs.Table.{Why, why, given, refused, testOf, Passes, First}
