@@ -1,6 +1,10 @@
 -- For each public call, any two answers that its contract permits are the same.
 use mathlib.Core.Path.{sym, _∙_}
 use Rattle.buffers.proofs.Coincide.{OneAnswer}
+use Rattle.colours.proofs.apart.Apart.of.Kinds as of-kinds
+use Rattle.colours.proofs.apart.Apart.of.Reads as of-reads
+use Rattle.colours.proofs.apart.Apart.cell.Kinds as cell-kinds
+use Rattle.colours.proofs.apart.Apart.cell.Reads as cell-reads
 use Rattle.colours.proofs.colour.Kinds as colour-kinds
 use Rattle.colours.proofs.colour.Reads as colour-reads
 use Rattle.colours.proofs.entries.Kinds as entries-kinds
@@ -11,6 +15,12 @@ use Rattle.colours.proofs.pin.Kinds as pin-kinds
 use Rattle.colours.proofs.pin.Reads as pin-reads
 use Rattle.colours.proofs.shown.Kinds as shown-kinds
 use Rattle.colours.proofs.shown.Reads as shown-reads
+
+pub one-of : OneAnswer 0 of-kinds.ps of-kinds.r of-reads.Post
+one-of κs a x y s t p q = p ∙ sym q
+
+pub one-cell : OneAnswer 0 cell-kinds.ps cell-kinds.r cell-reads.Post
+one-cell κs a x y s t p q = p ∙ sym q
 
 pub one-shown : OneAnswer 0 shown-kinds.ps shown-kinds.r shown-reads.Post
 one-shown κs a x y s t p q = p ∙ sym q

@@ -1,4 +1,5 @@
 pub mod Guns
+pub mod Apart
 pub mod Colour
 pub mod Grey
 pub mod Cells

@@ -1,7 +1,11 @@
 // The colour of a logical pixel, its grey, and the level of the sync pin.
+pub mod apart;
+
+use apart::Apart;
 use registers::record::Registers;
 ghost use mathlib.Core.Path.{_≡_};
 ghost use Rattle.buffers.specs.Pick.{pick};
+ghost use Rattle.colours.specs.Apart.{apartOf};
 ghost use Rattle.colours.specs.Colour.{mixed, shownOf, colourOf, entriesOf};
 ghost use Rattle.colours.specs.Grey.{greyOf};
 ghost use Rattle.colours.specs.Pin.{pinOf};
@@ -22,18 +26,18 @@ fn mix(entry: u16, pixel: u8) -> u16
 }
 
 // The colour that a palette entry, 13 bits of what is given, shows for a logical pixel.
-pub fn shown(entry: u16, depth: u8, pixel: u8) -> u16
-    ensures { λ r. ⌜ r ≡ shownOf entry depth pixel ⌝ }
+pub fn shown(entry: u16, depth: u8, pixel: u8) -> Apart
+    ensures { λ r. ⌜ r ≡ apartOf (shownOf entry depth pixel) ⌝ }
 {
     if depth == 8 {
-        return mix(entry, pixel);
+        return Apart::of(mix(entry, pixel));
     }
-    entry % 0x2000
+    Apart::of(entry)
 }
 
 // The colour that a logical pixel shows.
-pub fn colour(g: Registers, depth: u8, pixel: u8) -> u16
-    ensures { λ r. ⌜ r ≡ colourOf g depth pixel ⌝ }
+pub fn colour(g: Registers, depth: u8, pixel: u8) -> Apart
+    ensures { λ r. ⌜ r ≡ apartOf (colourOf g depth pixel) ⌝ }
 {
     shown(g.palette(pixel), depth, pixel)
 }

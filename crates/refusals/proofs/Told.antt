@@ -8,7 +8,8 @@ use Rattle.refusals.specs.Table.{Why}
 use Rattle.refusals.specs.Refusals.{whyOf, refusal, answerSays}
 use Rattle.refusals.specs.declared.Refusal.{Refusal}
 use Rattle.refusals.specs.declared.Refusal.the-variants.{TooManyWords, Reserved, Unwritten, TestMode, Interlace, Horizontal, Vertical, Width}
-use Rattle.refusals.specs.declared.Refusal.the-variants.{Cursor, Sound, WordCount, Raster, Short, PlateFile, TooLarge, Full, Empty, WordIndex, SyncWidth}
+use Rattle.refusals.specs.declared.Refusal.the-variants.{Cursor, Sound, WordCount, Raster, Short, PlateFile, TooLarge, Full, Empty, WordIndex}
+use Rattle.refusals.specs.declared.Refusal.the-variants.{SyncWidth, Camera}
 use Rattle.refusals.specs.declared.Answer.{Answer}
 use Rattle.refusals.specs.declared.Answer.the-variants.{Done, Refused}
 use Rattle.refusals.proofs.Tables.{never}
@@ -17,7 +18,7 @@ use Rattle.refusals.proofs.Tables.{never}
 cases : ℕ → List Refusal
 cases d =
     TooManyWords ∷ Reserved d ∷ Unwritten d ∷ TestMode ∷ Interlace ∷ Horizontal ∷ Vertical ∷ Width ∷ Cursor ∷ Sound d ∷ WordCount ∷ Raster
-    ∷ Short ∷ PlateFile ∷ TooLarge ∷ Full ∷ Empty ∷ WordIndex ∷ SyncWidth ∷ []
+    ∷ Short ∷ PlateFile ∷ TooLarge ∷ Full ∷ Empty ∷ WordIndex ∷ SyncWidth ∷ Camera d ∷ []
 
 numbered : ℕ → List Refusal → Refusal
 numbered n [] = WordIndex
@@ -47,6 +48,7 @@ back-told Full = refl
 back-told Empty = refl
 back-told WordIndex = refl
 back-told SyncWidth = refl
+back-told (Camera index) = refl
 
 pub same-refusal : {A : Type 0} (r q : Refusal) → refusal {A = A} r ≡ refusal q → r ≡ q
 same-refusal r q e = let w : whyOf r ≡ whyOf q = cc in sym (back-told r) ∙ (ap back w ∙ back-told q)

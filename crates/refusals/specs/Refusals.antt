@@ -2,7 +2,8 @@
 use Rattle.refusals.specs.Table.{Why, why, Told, given, refused}
 use Rattle.refusals.specs.declared.Refusal.{Refusal}
 use Rattle.refusals.specs.declared.Refusal.the-variants.{TooManyWords, Reserved, Unwritten, TestMode, Interlace, Horizontal, Vertical, Width}
-use Rattle.refusals.specs.declared.Refusal.the-variants.{Cursor, Sound, WordCount, Raster, Short, PlateFile, TooLarge, Full, Empty, WordIndex, SyncWidth}
+use Rattle.refusals.specs.declared.Refusal.the-variants.{Cursor, Sound, WordCount, Raster, Short, PlateFile, TooLarge, Full, Empty, WordIndex}
+use Rattle.refusals.specs.declared.Refusal.the-variants.{SyncWidth, Camera}
 use Rattle.refusals.specs.declared.Answer.{Answer}
 use Rattle.refusals.specs.declared.Answer.the-variants.{Done, Refused}
 
@@ -26,6 +27,7 @@ whyOf Full = why 16 0
 whyOf Empty = why 17 0
 whyOf WordIndex = why 18 0
 whyOf SyncWidth = why 19 0
+whyOf (Camera index) = why 20 index
 
 -- A refusal as the paper's table has it.
 abbrev pub refusal : {A : Type 0} → Refusal → Told A

@@ -41,6 +41,8 @@ pub enum Refusal {
     WordIndex,
     // 19: cursor on, and horizontal sync too short for it
     SyncWidth,
+    // 20: a camera number of more than 12 bits, with the index of the first such number
+    Camera(u32),
 }
 
 // The number and the detail of a row.
@@ -70,6 +72,7 @@ impl Refusal {
             Refusal::Empty => Numbers(17, 0),
             Refusal::WordIndex => Numbers(18, 0),
             Refusal::SyncWidth => Numbers(19, 0),
+            Refusal::Camera(index) => Numbers(20, index),
         }
     }
 

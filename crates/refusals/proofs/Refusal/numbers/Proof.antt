@@ -61,6 +61,9 @@ enum-told-15 c = search needs
 enum-told-16 : tie.Need-enum-told-16
 enum-told-16 c = search needs
 
+enum-known-self-4 : tie.Need-enum-known-self-4
+enum-known-self-4 c = search needs
+
 returns : tie.Need-returns
 returns c = rw (c .enum-told .given .1) (refl, refl)
 
@@ -118,6 +121,9 @@ returns-18 c = rw (c .enum-told15 .given .1) (refl, refl)
 returns-19 : tie.Need-returns-19
 returns-19 c = rw (c .enum-told16 .given .1) (refl, refl)
 
+returns-20 : tie.Need-returns-20
+returns-20 c = rw (c .before .self4 .given .1) (refl, refl)
+
 pub numbers-spec : {M : Type 1} → statement M
 numbers-spec =
     tie.close
@@ -141,6 +147,7 @@ numbers-spec =
     enum-told-14
     enum-told-15
     enum-told-16
+    enum-known-self-4
     returns
     returns-2
     returns-3
@@ -159,4 +166,5 @@ numbers-spec =
     returns-16
     returns-17
     returns-18
-    returns-19)
+    returns-19
+    returns-20)
