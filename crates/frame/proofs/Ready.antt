@@ -20,9 +20,12 @@ use Rattle.registers.specs.Colours.{borderOf, cursorOf}
 use Rattle.registers.specs.inner.Accepted.{Depth}
 use Rattle.registers.specs.declared.record.Registers.{Registers}
 use Rattle.registers.specs.declared.setting.Setting.{Setting}
+use Rattle.colours.specs.Apart.{apartOf, bothOf}
 use Rattle.colours.specs.Colour.{shownOf, colourOf, entriesOf}
-use Rattle.colours.proofs.Bounds.{colour-below}
+use Rattle.colours.specs.declared.apart.Apart.{Apart}
+use Rattle.colours.proofs.Bounds.{colour-below, shown-below}
 use Rattle.colours.proofs.Sixteen.{entry-of}
+use Rattle.colours.proofs.Together.{cell-apart}
 use Rattle.cells.specs.Pixel.{position, logical, cursorPair}
 use Rattle.cells.specs.Cell.{inDisplay, inBorder, plainCode, covered, code, cell}
 use Rattle.cells.proofs.Regions.{covered-shown, covered-cell}
@@ -46,9 +49,17 @@ module _ (g : Registers) (palette : List ℕ) (d p : ℕ) (e : palette ≡ entri
   unfolding entryShade shade
   entry-shade = rw (entry-of g palette p e)
 
-pub entry-shade-is : (palette : List ℕ) (d p c : ℕ) → c ≡ shownOf (getD palette (p % 16) 0) d p → 5 * 8192 + c ≡ entryShade palette d p
+-- The cell made of 13 bits that were taken apart, and so the display cell by the palette's entries.
+pub made-cell : (code held h r : ℕ) (a : Apart) → held < 8192 → h ≡ held → a ≡ apartOf h → r ≡ code * 8192 + bothOf a → r ≡ code * 8192 + held
+made-cell code held h r a below same apart made =
+    made ∙ ap (λ (b : Apart). code * 8192 + bothOf b) (apart ∙ ap apartOf same) ∙ cell-apart code held below
+
+pub entry-shade-is : (palette : List ℕ) (d p r : ℕ) (a : Apart) → a ≡ apartOf (shownOf (getD palette (p % 16) 0) d p) → r ≡ 5 * 8192 + bothOf a
+    → r ≡ entryShade palette d p
 unfolding entryShade
-entry-shade-is palette d p c e = rw e
+entry-shade-is palette d p r a apart made =
+    let entry = getD palette (p % 16) 0 in
+    made-cell 5 (shownOf entry d p) _ r a (shown-below entry d p) refl apart made
 
 -- Shades are right where they have each logical pixel's cell.
 abbrev Shades : Registers → ℕ → List ℕ → Type 0

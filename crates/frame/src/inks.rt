@@ -1,5 +1,6 @@
 // Cells made ready, once for each call: a display cell for each logical pixel, and the cells of border and cursor.
 use crate::bytes::bytes;
+use colours::apart::Apart;
 use colours::entries;
 use colours::shown;
 use registers::record::Registers;
@@ -20,7 +21,7 @@ fn shades(list: &mut [u16], g: Registers, depth: u8)
     let count = 1usize << depth;
     let mut p = 0;
     while p < count {
-        list[p] = 5 * 8192 + shown(palette[p % 16], depth, p as u8);
+        list[p] = shown(palette[p % 16], depth, p as u8).cell(5);
         p += 1;
     }
 }
@@ -43,9 +44,9 @@ pub fn ready(table: &mut [u16], g: Registers, depth: u8)
 pub fn pens(g: Registers) -> [u16; 4]
     ensures { λ r. ⌜ r ≡ pensOf g ⌝ }
 {
-    let border = 4 * 8192 + g.border();
-    let one = 6 * 8192 + g.cursor_colour(1);
-    let two = 6 * 8192 + g.cursor_colour(2);
-    let three = 6 * 8192 + g.cursor_colour(3);
+    let border = Apart::of(g.border()).cell(4);
+    let one = Apart::of(g.cursor_colour(1)).cell(6);
+    let two = Apart::of(g.cursor_colour(2)).cell(6);
+    let three = Apart::of(g.cursor_colour(3)).cell(6);
     [border, one, two, three]
 }

@@ -10,8 +10,11 @@ use lib.Dec.{leb, ltb}
 use lib.ListN.{length, getD, set, length-set, List·getD-eq-default}
 use lib.Seq.{getD-set-same, getD-set-other}
 use Rattle.registers.specs.declared.record.Registers.{Registers}
+use Rattle.colours.specs.Apart.{apartOf}
 use Rattle.colours.specs.Colour.{shownOf, colourOf}
 use Rattle.colours.specs.Grey.{greyOf}
+use Rattle.colours.specs.declared.apart.Apart.{Apart}
+use Rattle.colours.proofs.Brighter.{grey-of-guns}
 use Rattle.marks.specs.Count.{bit}
 use Rattle.marks.specs.inner.Bright.{Tabled, AtMost, lit, bright, wordBright}
 
@@ -30,9 +33,13 @@ tabled-more {table} {k} {v} {f} t l e =
       on = each-more table k v (λ i w. w ≡ f i) (omega (arith, t .len)) (t .on) e;
     }
 
-module _ (entry d threshold p c r : ℕ) (e : c ≡ shownOf entry d p) (f : r ≡ greyOf c) where
+-- The grey of what a lookup answers.
+pub apart-grey : (held r : ℕ) (a : Apart) → a ≡ apartOf held → r ≡ greyOf (a .colour) → r ≡ greyOf held
+apart-grey held r a apart made = made ∙ ap (λ (b : Apart). greyOf (b .colour)) apart ∙ sym (grey-of-guns held)
+
+module _ (entry d threshold p r : ℕ) (a : Apart) (e : a ≡ apartOf (shownOf entry d p)) (f : r ≡ greyOf (a .colour)) where
   as-grey : leb threshold r ≡ leb threshold (greyOf (shownOf entry d p))
-  as-grey = ap (leb threshold) (f ∙ ap greyOf e)
+  as-grey = ap (leb threshold) (apart-grey (shownOf entry d p) r a e f)
 
   pub lit-yes : threshold ≤ r → 1 ≡ lit entry d threshold p
   lit-yes l = ap bit (sym (le-leb threshold r l) ∙ as-grey)

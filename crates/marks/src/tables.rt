@@ -15,7 +15,7 @@ ghost use Rattle.marks.specs.inner.Shown.{greyAt, litBy};
 fn is_bright(entry: u16, depth: u8, threshold: u8, pixel: u8) -> u8
     ensures { λ r. ⌜ r ≡ lit entry depth threshold pixel ⌝ }
 {
-    if threshold <= grey(shown(entry, depth, pixel)) {
+    if threshold <= grey(shown(entry, depth, pixel).colour) {
         return 1;
     }
     0
@@ -42,7 +42,7 @@ pub fn greys_of(g: Registers, depth: u8) -> [u8; 256]
     let mut table = [0u8; 256];
     let mut k: usize = 0;
     while k < 256 {
-        table[k] = grey(shown(palette[k % 16], depth, k as u8));
+        table[k] = grey(shown(palette[k % 16], depth, k as u8).colour);
         k += 1;
     }
     table

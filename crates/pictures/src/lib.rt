@@ -1,4 +1,5 @@
 // A picture's bytes: red, green and blue of each cell, each 4-bit gun times 17.
+use colours::apart::Apart;
 ghost use mathlib.Core.Path.{_≡_};
 ghost use Prim.Native.Nat.{_+_, _*_, _≤_};
 ghost use lib.ListN.{length};
@@ -31,7 +32,7 @@ fn put_cells(out: &mut [u8], cells: &[u16])
 {
     let mut k = 0;
     while k < cells.len() {
-        let colour = cells[k] % 8192;
+        let colour = Apart::of(cells[k]).colour;
         out[3 * k] = red_of(colour);
         out[3 * k + 1] = green_of(colour);
         out[3 * k + 2] = blue_of(colour);

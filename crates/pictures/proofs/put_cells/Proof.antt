@@ -20,11 +20,14 @@ abbrev μ-loop : tie.MeasureT-loop
 loop-holds : tie.Need-loop-holds Inv-loop μ-loop
 loop-holds c = (omega arith, refl, refl)
 
-mul-colour : tie.Need-mul-colour Inv-loop μ-loop
-mul-colour c = search needs
+mul-of : tie.Need-mul-of Inv-loop μ-loop
+mul-of c = search needs
 
-shared-slice-read-colour : tie.Need-shared-slice-read-colour Inv-loop μ-loop
-shared-slice-read-colour c = search needs
+shared-slice-read-of : tie.Need-shared-slice-read-of Inv-loop μ-loop
+shared-slice-read-of c = search needs
+
+of-requires : tie.Need-of-requires Inv-loop μ-loop
+of-requires c κs = search needs
 
 red-of-requires : tie.Need-red-of-requires Inv-loop μ-loop
 red-of-requires c κs = search needs
@@ -68,13 +71,14 @@ loop-less c = search needs
 loop-again : tie.Need-loop-again Inv-loop μ-loop
 loop-again c =
     let at-red-of = c .before .before in
-    let at-loop = at-red-of .before .before .before in
+    let at-of = at-red-of .before in
+    let at-loop = at-of .before .before .before in
     let args = at-loop .before .before .before .args in
     let l = at-loop .loop in (
       omega arith,
       simp length-set (l .inv .1),
-      guns-turn (l .out) (args .cells .now) (l .k) _ _ _ (omega arith) (at-red-of .red-of .ensures) (c .before .green-of .ensures)
-          (c .blue-of .ensures) ∙ l .inv .2,
+      guns-turn (l .out) (args .cells .now) (l .k) _ _ _ _ (omega arith) (at-of .of .ensures) (at-red-of .red-of .ensures)
+          (c .before .green-of .ensures) (c .blue-of .ensures) ∙ l .inv .2,
     )
 
 same-length : tie.Need-same-length Inv-loop μ-loop
@@ -93,8 +97,9 @@ put-cells-spec =
     Inv-loop
     μ-loop
     loop-holds
-    mul-colour
-    shared-slice-read-colour
+    mul-of
+    shared-slice-read-of
+    of-requires
     red-of-requires
     mul-out
     slice-write-out

@@ -1,11 +1,9 @@
 -- Pixel after pixel: after each turn the first p places hold the display cells of the palette's entries, which are the rule's.
-use Prim.Native.Nat.{_-_, _%_, _^_, _≤_}
+use Prim.Native.Nat.{_-_, _^_, _≤_}
 use mathlib.Core.Path.{_≡_}
 use native.Mathlib.Omega.{arith}
 use borrow.Author.Needs.{needs}
-use lib.ListN.{getD}
 use Rattle.buffers.proofs.Paints.{Paints, paint-none, paint-more, paint-as, paints-painted}
-use Rattle.colours.proofs.Bounds.{shown-below}
 use Rattle.frame.specs.inner.Ink.{shade, entryShade}
 use Rattle.frame.proofs.Ready.{count-is, count-most, entry-shade, entry-shade-is}
 use Rattle.frame.proofs.inks.shades.Statement.{statement}
@@ -26,9 +24,6 @@ shl-count c = omega (arith, c .before .before .pre .0)
 loop-holds : tie.Need-loop-holds Inv-loop μ-loop
 loop-holds c = (omega arith, paint-none _ _)
 
-mul-list : tie.Need-mul-list Inv-loop μ-loop
-mul-list c = search needs
-
 mul-shown : tie.Need-mul-shown Inv-loop μ-loop
 mul-shown c = search needs
 
@@ -43,48 +38,45 @@ cast-shown c = let d = c .before .before .before .before .args .depth in
 shown-requires : tie.Need-shown-requires Inv-loop μ-loop
 shown-requires c κs = search needs
 
-add-list : tie.Need-add-list Inv-loop μ-loop
-add-list c =
-    let d = c .before .before .before .before .before .args .depth in
-    let p = c .before .before .loop .p in
-    omega (arith, c .shown .ensures, shown-below (getD (c .before .before .before .entries .result) (p % 16) 0) d p)
+cell-requires : tie.Need-cell-requires Inv-loop μ-loop
+cell-requires c κs = search needs
 
-mul-list-2 : tie.Need-mul-list-2 Inv-loop μ-loop
-mul-list-2 c =
-    let s = c .before .before .before .before .before in
+mul-list : tie.Need-mul-list Inv-loop μ-loop
+mul-list c =
+    let s = c .before .before .before .before .before .before in
     let d = s .args .depth in
     let few = s .pre .0 in
-    omega (arith, c .before .loop-test .taken, count-is d few, count-most d few, s .pre .1, c .before .before .loop .inv .1 .len)
+    omega (arith, c .before .before .loop-test .taken, count-is d few, count-most d few, s .pre .1, c .before .before .before .loop .inv .1 .len)
 
 slice-write-list : tie.Need-slice-write-list Inv-loop μ-loop
 slice-write-list c =
-    let s = c .before .before .before .before .before in
+    let s = c .before .before .before .before .before .before in
     let d = s .args .depth in
     let few = s .pre .0 in
-    omega (arith, c .before .loop-test .taken, count-is d few, count-most d few, s .pre .1, c .before .before .loop .inv .1 .len)
+    omega (arith, c .before .before .loop-test .taken, count-is d few, count-most d few, s .pre .1, c .before .before .before .loop .inv .1 .len)
 
 add-p : tie.Need-add-p Inv-loop μ-loop
 add-p c =
-    let s = c .before .before .before .before .before in
+    let s = c .before .before .before .before .before .before in
     let d = s .args .depth in
     let few = s .pre .0 in
-    omega (arith, c .before .loop-test .taken, count-is d few, count-most d few, s .pre .1, c .before .before .loop .inv .1 .len)
+    omega (arith, c .before .before .loop-test .taken, count-is d few, count-most d few, s .pre .1, c .before .before .before .loop .inv .1 .len)
 
 loop-less : tie.Need-loop-less Inv-loop μ-loop
 loop-less c =
-    let s = c .before .before .before .before .before in
+    let s = c .before .before .before .before .before .before in
     let d = s .args .depth in
     let few = s .pre .0 in
-    omega (arith, c .before .loop-test .taken, count-is d few, count-most d few, s .pre .1, c .before .before .loop .inv .1 .len)
+    omega (arith, c .before .before .loop-test .taken, count-is d few, count-most d few, s .pre .1, c .before .before .before .loop .inv .1 .len)
 
 loop-again : tie.Need-loop-again Inv-loop μ-loop
 loop-again c =
-    let s = c .before .before .before .before .before in
+    let s = c .before .before .before .before .before .before in
     let d = s .args .depth in
     let few = s .pre .0 in (
-      omega (arith, c .before .loop-test .taken, count-is d few),
-      paint-more _ (omega arith) (omega (arith, c .before .loop-test .taken, count-is d few, s .pre .1)) (entry-shade-is _ _ _ _ (c .shown .ensures))
-          (c .before .before .loop .inv .1),
+      omega (arith, c .before .before .loop-test .taken, count-is d few),
+      paint-more _ (omega arith) (omega (arith, c .before .before .loop-test .taken, count-is d few, s .pre .1))
+          (entry-shade-is _ _ _ _ _ (c .before .shown .ensures) (c .cell .ensures)) (c .before .before .before .loop .inv .1),
     )
 
 same-length : tie.Need-same-length Inv-loop μ-loop
@@ -108,13 +100,12 @@ shades-spec =
     entries-requires
     shl-count
     loop-holds
-    mul-list
     mul-shown
     array-read-shown
     cast-shown
     shown-requires
-    add-list
-    mul-list-2
+    cell-requires
+    mul-list
     slice-write-list
     add-p
     loop-less

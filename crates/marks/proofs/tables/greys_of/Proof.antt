@@ -8,7 +8,7 @@ use Rattle.colours.specs.Colour.{shownOf}
 use Rattle.colours.specs.Grey.{greyOf}
 use Rattle.colours.proofs.Sixteen.{entry-of}
 use Rattle.marks.specs.inner.Bright.{Tabled}
-use Rattle.marks.proofs.Tabled.{tabled-more}
+use Rattle.marks.proofs.Tabled.{tabled-more, apart-grey}
 use Rattle.marks.proofs.tables.greys_of.Statement.{statement}
 use Rattle.marks.proofs.tables.greys_of.Tie as tie
 
@@ -50,7 +50,7 @@ loop-less c = omega arith
 
 loop-again : tie.Need-loop-again Inv-loop μ-loop
 loop-again c =
-    (omega arith, tabled-more (c .before .before .before .loop .inv .1) (omega arith) (c .grey .ensures ∙ ap greyOf (c .before .shown .ensures)))
+    (omega arith, tabled-more (c .before .before .before .loop .inv .1) (omega arith) (apart-grey _ _ _ (c .before .shown .ensures) (c .grey .ensures)))
 
 returns : tie.Need-returns Inv-loop μ-loop
 returns c =
