@@ -1,6 +1,6 @@
-//! One cell of the frame: code times 8192 plus colour, at a position x and a raster y.
+//! One cell of the frame, at a position x and a raster y: code times 8192, supremacy times 4096, and colour.
 
-use crate::colour;
+use crate::colour::{self, Shown};
 use crate::record::Record;
 use crate::setting::Setting;
 
@@ -31,7 +31,7 @@ impl Picture<'_> {
         match under {
             4 => made(4, colour::border(self.record)),
             5 => made(5, colour::display(self.record, self.setting.depth, self.pixel(x, y))),
-            code => made(code, 0),
+            code => made(code, Shown { colour: 0, supremacy: false }),
         }
     }
 
@@ -80,14 +80,15 @@ impl Picture<'_> {
     }
 }
 
-fn made(code: u16, colour: u16) -> u16 {
-    code * 8192 + colour
+fn made(code: u16, shown: Shown) -> u16 {
+    code * 8192 + u16::from(shown.supremacy) * 4096 + shown.colour
 }
 
 pub fn code(cell: u16) -> u16 {
     cell / 8192
 }
 
-pub fn colour(cell: u16) -> u16 {
-    cell % 8192
+/// Any cell's colour and supremacy, whatever its code.
+pub fn shown(cell: u16) -> Shown {
+    Shown { colour: cell % 4096, supremacy: cell / 4096 % 2 == 1 }
 }

@@ -3,6 +3,7 @@
 
 pub mod address;
 pub mod bench;
+pub mod camera;
 pub mod cell;
 pub mod colour;
 pub mod drawn;
@@ -11,10 +12,13 @@ pub mod grey;
 pub mod live;
 pub mod load;
 pub mod marks;
+pub mod mixing;
 pub mod needed;
+pub mod overlay;
 pub mod parts;
 pub mod pin;
 pub mod plate;
+pub mod ppm;
 pub mod queue;
 pub mod queue_calls;
 pub mod queue_sync;
@@ -30,11 +34,19 @@ pub mod summaries;
 pub mod text;
 
 #[cfg(test)]
+mod camera_tests;
+#[cfg(test)]
+mod colour_tests;
+#[cfg(test)]
 mod grey_tests;
 #[cfg(test)]
 mod history_tests;
 #[cfg(test)]
 mod live_tests;
+#[cfg(test)]
+mod mixing_tests;
+#[cfg(test)]
+mod overlay_tests;
 #[cfg(test)]
 mod paper_tests;
 #[cfg(test)]

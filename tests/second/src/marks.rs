@@ -1,6 +1,6 @@
 //! The mark count: display cells whose grey reaches a threshold. Refusals: setting, 11.
 
-use crate::cell::{code, colour};
+use crate::cell::{code, shown};
 use crate::frame::frame;
 use crate::grey::grey;
 use crate::record::Record;
@@ -13,6 +13,6 @@ pub fn marks(record: &Record, video: &[u32], cursor: &[u32], threshold: u8) -> R
 
 /// Counted over cells that are there already.
 pub fn marked(cells: &[u16], threshold: u8) -> u64 {
-    let is_mark = |cell: &&u16| code(**cell) == 5 && grey(colour(**cell)) >= threshold;
+    let is_mark = |cell: &&u16| code(**cell) == 5 && grey(shown(**cell).colour) >= threshold;
     cells.iter().filter(is_mark).count() as u64
 }

@@ -1,7 +1,8 @@
-//! The paper's thirteen marked cases, the ninth by change request 4, and its small plate.
+//! The paper's thirteen marked cases, the ninth by change request 4, the colours of 4 and 5 taken apart, and its small plate.
 
 use crate::address::*;
-use crate::cell::{code, colour};
+use crate::cell::{code, shown};
+use crate::colour::{display, Shown};
 use crate::frame::frame;
 use crate::grey::grey;
 use crate::load::load;
@@ -69,15 +70,15 @@ fn case_3_stereo_seven() {
 #[test]
 fn case_4_depth_eight_entry_fifteen() {
     let record = one(word(palette_entry(15), 0x1FFF));
-    assert_eq!(crate::colour::display(&record, 8, 0x0F), 0x1737);
-    assert_eq!(crate::colour::display(&record, 8, 0xFF), 0x1FFF);
+    assert_eq!(display(&record, 8, 0x0F), Shown { colour: 0x737, supremacy: true });
+    assert_eq!(display(&record, 8, 0xFF), Shown { colour: 0xFFF, supremacy: true });
 }
 
 #[test]
 fn case_5_depth_eight_entry_zero() {
     let record = one(word(palette_entry(0), 0));
-    assert_eq!(crate::colour::display(&record, 8, 0x80), 0x800);
-    assert_eq!(crate::colour::display(&record, 8, 0x10), 8);
+    assert_eq!(display(&record, 8, 0x80), Shown { colour: 0x800, supremacy: false });
+    assert_eq!(display(&record, 8, 0x10), Shown { colour: 8, supremacy: false });
 }
 
 #[test]
@@ -116,7 +117,8 @@ fn case_10_small_raster_three() {
     let display: Vec<u16> = cells.iter().copied().filter(|c| code(*c) == 5).collect();
     assert_eq!(border, [36608; 8]);
     assert_eq!(display, [40960, 40961, 40962, 40963, 40964, 40965, 40966, 40967]);
-    assert!(cells.iter().all(|c| code(*c) >= 4 || colour(*c) == 0));
+    let nothing = Shown { colour: 0, supremacy: false };
+    assert!(cells.iter().all(|c| code(*c) >= 4 || shown(*c) == nothing));
 }
 
 #[test]

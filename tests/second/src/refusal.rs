@@ -1,5 +1,7 @@
 //! The table of refusals: each refusal is its number and a detail.
 
+use std::fmt;
+
 #[derive(Clone, Copy, Debug, PartialEq, Eq)]
 pub struct Refusal {
     pub number: u32,
@@ -25,6 +27,14 @@ pub const FULL: u32 = 16;
 pub const EMPTY: u32 = 17;
 pub const WORD_INDEX: u32 = 18;
 pub const SYNC_WIDTH: u32 = 19;
+pub const CAMERA: u32 = 20;
+
+/// As the printer says it, without the line's end.
+impl fmt::Display for Refusal {
+    fn fmt(&self, f: &mut fmt::Formatter) -> fmt::Result {
+        write!(f, "refused {} {}", self.number, self.detail)
+    }
+}
 
 /// A refusal with detail 0.
 pub fn refusal(number: u32) -> Refusal {
@@ -46,5 +56,5 @@ pub fn refuse_if(wrong: bool, number: u32) -> Result<(), Refusal> {
 
 /// A plate's lines, or the one line of a refused plate.
 pub fn or_refused(lines: Result<String, Refusal>) -> String {
-    lines.unwrap_or_else(|refusal| format!("refused {} {}\n", refusal.number, refusal.detail))
+    lines.unwrap_or_else(|refusal| format!("{refusal}\n"))
 }

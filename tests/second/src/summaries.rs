@@ -1,6 +1,6 @@
 //! Marks per raster: an entry of three numbers for each displayed raster, kept beside the plate.
 
-use crate::cell::{code, colour, Picture};
+use crate::cell::{code, shown, Picture};
 use crate::grey::grey;
 use crate::marks::marked;
 use crate::raster_words::stretch;
@@ -64,8 +64,8 @@ fn write_entry(picture: &Picture, y: u32, threshold: u8, lent: &mut [u16]) {
 
 /// Over a raster's cells; 0, 255, 0 where none has code 5.
 fn entry(cells: &[u16], threshold: u8) -> [u16; ENTRY] {
-    let shown = cells.iter().filter(|cell| code(**cell) == 5);
-    let greys: Vec<u8> = shown.map(|cell| grey(colour(*cell))).collect();
+    let displayed = cells.iter().filter(|cell| code(**cell) == 5);
+    let greys: Vec<u8> = displayed.map(|cell| grey(shown(*cell).colour)).collect();
     let least = greys.iter().min().unwrap_or(&255);
     let greatest = greys.iter().max().unwrap_or(&0);
     [marked(cells, threshold) as u16, u16::from(*least), u16::from(*greatest)]

@@ -12,7 +12,7 @@ use crate::summaries::{replace, summaries};
 const GARBAGE: u16 = 7777;
 
 /// The small plate with other horizontal ends (HCR, HDER, HBER), and rasters 3 to 4 displayed: depth by the control data.
-fn two_rasters(control: u32, ends: [u32; 3]) -> Record {
+pub fn two_rasters(control: u32, ends: [u32; 3]) -> Record {
     let words = [
         value(HCR, ends[0]),
         value(HDER, ends[1]),
@@ -36,7 +36,7 @@ pub fn cursor_alone(record: Record, vcs: u32, vce: u32) -> Record {
 }
 
 /// That cursor with a sync long enough for it: 8 pixels at 8 MHz, the border from 9. The display stays where it was.
-fn with_cursor(record: Record, vcs: u32, vce: u32) -> Record {
+pub fn with_cursor(record: Record, vcs: u32, vce: u32) -> Record {
     let control = record.data(CONTROL) / 4 * 4;
     let sync = [word(CONTROL, control), value(HSWR, 3), value(HBSR, 4)];
     sync.into_iter().fold(cursor_alone(record, vcs, vce), Record::with_word)
@@ -162,9 +162,9 @@ fn refused(
     [by_summaries, by_replace]
 }
 
-#[test]
-fn the_setting_comes_before_the_rest() {
-    let wrong = [
+/// Settings that are refused, each with its refusal, and most of them with a later one too.
+pub fn refused_settings() -> [(Record, Refusal); 9] {
+    [
         (Record::fresh(), refusal_at(3, 0xE0)),
         (small().with_word(value(VCSR, 0)).with_word(value(VCER, 9)), refusal_at(3, 0x44)),
         (small().with_word(word(CONTROL, 0x404B)), refusal(4)),
@@ -174,8 +174,12 @@ fn the_setting_comes_before_the_rest() {
         (small().with_word(value(VSWR, 6)).with_word(value(HDER, 5)), refusal(7)),
         (with_cursor(small(), 3, 7).with_word(value(HDER, 5)), refusal(8)),
         (with_cursor(small(), 3, 7), refusal(9)),
-    ];
-    for (record, refusal) in wrong {
+    ]
+}
+
+#[test]
+fn the_setting_comes_before_the_rest() {
+    for (record, refusal) in refused_settings() {
         assert_eq!(refused(&record, &[1, 2], &[3], 2, 0), [Some(refusal); 2]);
     }
 }

@@ -182,7 +182,7 @@ fn before_the_word_counts_and_what_follows_them() {
 }
 
 /// The plate of a record, with these words.
-fn plate_of(record: &Record, video: &[u32], cursor: &[u32]) -> Vec<u8> {
+pub fn plate_of(record: &Record, video: &[u32], cursor: &[u32]) -> Vec<u8> {
     let written = (0..=0xFC).step_by(4).filter(|address| record.is_written(*address));
     let registers: Vec<u32> = written.map(|address| word(address, record.data(address))).collect();
     plate::write(&registers, video, cursor, &[], 1000).unwrap()

@@ -1,8 +1,8 @@
-//! The picture of a plate on standard input, on standard output: a binary PPM file, each 4-bit gun times 17. A refusal goes to
-//! standard error.
+//! The picture of a plate on standard input, on standard output: a binary PPM file. A refusal goes to standard error.
 
-use second::cell::colour;
+use second::cell::shown;
 use second::drawn::{drawn, MOST_INPUT};
+use second::ppm::ppm;
 use std::io::{self, Read, Write};
 
 fn main() -> io::Result<()> {
@@ -10,10 +10,9 @@ fn main() -> io::Result<()> {
     io::stdin().take(MOST_INPUT as u64 + 1).read_to_end(&mut plate)?;
     match drawn(&plate) {
         Ok((s, cells)) => {
-            let mut file = format!("P6\n{} {}\n255\n", s.n, s.v).into_bytes();
-            file.extend(cells.iter().flat_map(|cell| [0, 4, 8].map(|gun| 17 * (colour(*cell) >> gun & 15) as u8)));
-            io::stdout().write_all(&file)
+            let colours: Vec<u16> = cells.iter().map(|cell| shown(*cell).colour).collect();
+            io::stdout().write_all(&ppm(s.n, s.v, &colours))
         }
-        Err(refusal) => writeln!(io::stderr(), "refused {} {}", refusal.number, refusal.detail),
+        Err(refusal) => writeln!(io::stderr(), "{refusal}"),
     }
 }
