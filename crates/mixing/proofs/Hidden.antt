@@ -1,46 +1,47 @@
--- What mixing hides: of the camera every place whose cell does not show it, and nothing else; and each mixed number has 12 bits.
-use Prim.Native.Nat.{ℕ, _<_, _≤_}
+-- What mixing hides of a camera: every place whose cell does not show it, and nothing else. And each mixed number has 12 bits.
+use Prim.Native.Nat.{ℕ, zero, suc, _+_, _<_, _≤_}
 use mathlib.Core.Bool.{Bool, true, false}
-use mathlib.Core.List.{List}
+use mathlib.Core.List.{List, [], _∷_}
 use mathlib.Core.Logic.{_↔_}
 use mathlib.Core.Path.{_≡_, refl, sym, _∙_, ap}
+use native.Mathlib.Nat.{zero-add}
 use native.Mathlib.Omega.{arith}
 use borrow.Author.Tests.{ltb-false}
-use lib.ListN.{length, getD}
+use lib.ListN.{getD}
 use Rattle.buffers.specs.Bits.{bits}
-use Rattle.buffers.specs.Painted.{painted}
 use Rattle.buffers.specs.Pick.{pick}
-use Rattle.buffers.proofs.Paints.{paints-of, paints-painted, paint-as}
+use Rattle.buffers.specs.Values.{valuesFrom}
+use Rattle.buffers.proofs.Values.{getD-values}
 use Rattle.registers.proofs.First.{lowest-fails}
-use Rattle.mixing.specs.Mix.{showsCamera, mixedAt, tooLarge, firstTooLarge}
+use Rattle.mixing.specs.Mix.{showsCamera, mixedAt, mixedRaster, AgreeWhereShown, tooLarge, firstTooLarge}
 
-module _ (cells : List ℕ) (n : ℕ) where
-  -- Both cameras have the same colour at every place that shows the camera.
-  abbrev pub AgreeWhereShown : List ℕ → List ℕ → Type 0
-  AgreeWhereShown camera other = (x : ℕ) → x < n → showsCamera (getD cells x 0) ≡ true → getD camera x 0 ≡ getD other x 0
+-- Two rules that agree at n places from k on have the same values there.
+values-as : (f h : ℕ → ℕ) (k n : ℕ) → ((i : ℕ) → k ≤ i → i < k + n → f i ≡ h i) → valuesFrom f k n ≡ valuesFrom h k n
+unfolding valuesFrom
+values-as f h k zero same = refl
+values-as f h k (suc n) same =
+    rw (same k (omega arith) (omega arith), values-as f h (suc k) n (λ i a b. same i (omega arith) (omega arith)))
 
-  module _ (camera other o : List ℕ) (room : n ≤ length o) where
-    same-at : (x : ℕ) → painted o 0 n (mixedAt cells camera) ≡ painted o 0 n (mixedAt cells other) → x < n
-        → mixedAt cells camera x ≡ mixedAt cells other x
-    same-at x e h =
-        let one = paints-of {d = 0} {l = o} {a = 0} {f = mixedAt cells camera} room refl in
-        let two = paints-of {d = 0} {l = o} {a = 0} {f = mixedAt cells other} room refl in
-        sym (one .on x (omega arith) h) ∙ ap (λ (l : List ℕ). getD l x 0) e ∙ two .on x (omega arith) h
+module _ (cells camera other : List ℕ) (n : ℕ) where
+  same-at : (x : ℕ) → mixedRaster cells camera n ≡ mixedRaster cells other n → x < n → mixedAt cells camera x ≡ mixedAt cells other x
+  same-at x e h =
+      ap (mixedAt cells camera) (sym (zero-add x)) ∙ sym (getD-values (mixedAt cells camera) 0 n x h)
+      ∙ ap (λ (l : List ℕ). getD l x 0) e
+      ∙ getD-values (mixedAt cells other) 0 n x h ∙ ap (mixedAt cells other) (zero-add x)
 
-    agree-at : (x : ℕ) (shown : Bool) → showsCamera (getD cells x 0) ≡ shown → (shown ≡ true → getD camera x 0 ≡ getD other x 0)
-        → mixedAt cells camera x ≡ mixedAt cells other x
-    agree-at x true e h = rw e (h refl)
-    agree-at x false e h = rw e
+  agree-at : (x : ℕ) (shown : Bool) → showsCamera (getD cells x 0) ≡ shown → (shown ≡ true → getD camera x 0 ≡ getD other x 0)
+      → mixedAt cells camera x ≡ mixedAt cells other x
+  agree-at x true e h = rw e (h refl)
+  agree-at x false e h = rw e
 
-    -- Two cameras give the same mixed places exactly when they agree where the camera is shown.
-    pub hidden : (painted o 0 n (mixedAt cells camera) ≡ painted o 0 n (mixedAt cells other)) ↔ AgreeWhereShown camera other
-    hidden = (
-      λ e x h shows. rw shows at (same-at x e h),
-      λ agree.
-          paints-painted {d = 0} room
-          (paint-as (mixedAt cells other) (λ k a h. agree-at k (showsCamera (getD cells k 0)) refl (agree k h))
-          (paints-of {d = 0} {l = o} {a = 0} {f = mixedAt cells camera} room refl)),
-    )
+  -- Two cameras give the same mixed raster exactly when they agree where the camera is shown.
+  pub hidden : (mixedRaster cells camera n ≡ mixedRaster cells other n) ↔ AgreeWhereShown cells n camera other
+  hidden = (
+    λ e x h shows. rw shows at (same-at x e h),
+    λ agree.
+        values-as (mixedAt cells camera) (mixedAt cells other) 0 n
+        (λ i a b. agree-at i (showsCamera (getD cells i 0)) refl (agree i (omega arith))),
+  )
 
 -- Where no number of the camera is too large.
 pub mixed-below : (cells camera : List ℕ) (n x : ℕ) → n ≤ firstTooLarge camera n → x < n → mixedAt cells camera x < 4096

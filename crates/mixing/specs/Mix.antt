@@ -1,11 +1,13 @@
 -- A raster's cells laid over a camera's colours, every place by one rule; refusals: the setting's, then 13, then 20.
-use Prim.Native.Nat.{ℕ}
-use mathlib.Core.Bool.{Bool, _&&_, _||_}
+use Prim.Native.Nat.{ℕ, _<_}
+use mathlib.Core.Bool.{Bool, true, _&&_, _||_}
 use mathlib.Core.List.{List, [], _∷_, _++_}
+use mathlib.Core.Path.{_≡_}
 use lib.Dec.{ltb, leb, eqb}
 use lib.ListN.{length, getD}
 use Rattle.buffers.specs.Painted.{painted}
 use Rattle.buffers.specs.Pick.{pick}
+use Rattle.buffers.specs.Values.{valuesFrom}
 use Rattle.refusals.specs.Table.{Told, Row, row, judged, unlessRefused}
 use Rattle.registers.specs.Check.{settingTable}
 use Rattle.registers.specs.Lowest.{lowest}
@@ -25,6 +27,13 @@ shownOver cell camera = pick (showsCamera cell) camera (apartOf cell .colour)
 -- The rule of every place.
 abbrev pub mixedAt : List ℕ → List ℕ → ℕ → ℕ
 mixedAt cells camera x = shownOver (getD cells x 0) (getD camera x 0)
+
+-- The n colours of a raster, and two cameras that have the same colour at every place of it whose cell shows the camera.
+abbrev pub mixedRaster : List ℕ → List ℕ → ℕ → List ℕ
+mixedRaster cells camera n = valuesFrom (mixedAt cells camera) 0 n
+
+abbrev pub AgreeWhereShown : List ℕ → ℕ → List ℕ → List ℕ → Type 0
+AgreeWhereShown cells n camera other = (x : ℕ) → x < n → showsCamera (getD cells x 0) ≡ true → getD camera x 0 ≡ getD other x 0
 
 -- 20: a camera's number of more than 12 bits, the first of n; n where there is none.
 abbrev pub tooLarge : List ℕ → ℕ → Bool

@@ -6,7 +6,7 @@ use borrow.Author.Tests.{lt-ltb, le-ltb}
 use lib.ListN.{length}
 use lib.Seq.{sets}
 use Rattle.refusals.specs.Table.{Why, Told, given, refused, andThen, unlessRefused}
-use Rattle.vombelishi.specs.Code.{answerCode, withRoom, storedBy, cellBy}
+use Rattle.vombelishi.specs.Code.{answerCode, withRoom, storedBy, cellBy, partBy}
 
 -- 13 · 2^32
 abbrev pub short : ℕ
@@ -43,6 +43,17 @@ module _ {A : Type 0} (t : Told A) (cell : A) where
 
   pub cell-done : (a : A) → t ≡ given a → Celled 0 a
   cell-done a e = (rw e, rw e)
+
+-- A call whose value's two parts have a cell each.
+module _ {A B C : Type 0} (t : Told A) (one : A → B) (two : A → C) (b : B) (c : C) where
+  abbrev pub Parted : ℕ → B → C → Type 0
+  Parted r x y = (r ≡ answerCode t) × (x ≡ partBy t one b) × (y ≡ partBy t two c)
+
+  pub parted-refused : (w : Why) (r : ℕ) → t ≡ refused w → Refuses w r → Parted r b c
+  parted-refused w r e k = (rw e k, rw e, rw e)
+
+  pub parted-done : (a : A) (x : B) (y : C) → t ≡ given a → x ≡ one a → y ≡ two a → Parted 0 x y
+  parted-done a x y e h k = (rw e, rw e h, rw e k)
 
 -- A call that fills a list and gives its length to a cell.
 module _ (t : Told ℕ) (out filled : List ℕ) (size : ℕ) where

@@ -25,6 +25,8 @@ use Rattle.vombelishi.proofs.loads.vom_load_word.Kinds as vom-load-word
 use Rattle.vombelishi.proofs.loads.vom_load_word.Reads as vom-load-word-reads
 use Rattle.vombelishi.proofs.pictures.vom_frame.Kinds as vom-frame-kinds
 use Rattle.vombelishi.proofs.pictures.vom_frame.Reads as vom-frame-reads
+use Rattle.vombelishi.proofs.mixes.vom_mix.Kinds as vom-mix-kinds
+use Rattle.vombelishi.proofs.mixes.vom_mix.Reads as vom-mix-reads
 use Rattle.vombelishi.proofs.pictures.vom_raster.Kinds as vom-raster-kinds
 use Rattle.vombelishi.proofs.pictures.vom_raster.Reads as vom-raster-reads
 use Rattle.vombelishi.proofs.queued.vom_queue_load as vom-queue-load
@@ -64,8 +66,12 @@ pub one-vom-write : OneState {A = List ℕ × ℕ} 6 vom-write-kinds.ps vom-writ
     (λ κs s. (now (s .1 .1 .1 .1 .0), now (s .1 .1 .1 .1 .1 .0))) vom-write-reads.Post
 one-vom-write κs a x y s t p q = (p .0 ∙ sym (q .0), λ i. ((p .1 ∙ sym (q .1)) i, (p .2 ∙ sym (q .2)) i))
 
-pub one-vom-colour : OneState 3 vom-colour-kinds.ps vom-colour-kinds.r (λ κs s. now (s .1 .1 .1 .1 .0)) vom-colour-reads.Post
-one-vom-colour κs a x y s t p q = (p .0 ∙ sym (q .0), p .1 ∙ sym (q .1))
+pub one-vom-colour : OneState {A = ℕ × ℕ} 4 vom-colour-kinds.ps vom-colour-kinds.r
+    (λ κs s. (now (s .1 .1 .1 .1 .0), now (s .1 .1 .1 .1 .1 .0))) vom-colour-reads.Post
+one-vom-colour κs a x y s t p q = (p .0 ∙ sym (q .0), λ i. ((p .1 ∙ sym (q .1)) i, (p .2 ∙ sym (q .2)) i))
+
+pub one-vom-mix : OneState 5 vom-mix-kinds.ps vom-mix-kinds.r (λ κs s. now (s .1 .1 .1 .1 .0)) vom-mix-reads.Post
+one-vom-mix κs a x y s t p q = (p .0 ∙ sym (q .0), p .1 ∙ sym (q .1))
 
 pub one-vom-grey : OneAnswer 0 vom-grey-kinds.ps vom-grey-kinds.r vom-grey-reads.Post
 one-vom-grey κs a x y s t p q = p ∙ sym q

@@ -23,3 +23,8 @@ storedBy (refused w) was = was
 abbrev pub cellBy : {A : Type 0} → Told A → A → A
 cellBy (given value) was = value
 cellBy (refused w) was = was
+
+-- One part of the value given, in a cell of its own; where the call is refused, the cell holds what it held.
+abbrev pub partBy : {A B : Type 0} → Told A → (A → B) → B → B
+partBy (given value) part was = part value
+partBy (refused w) part was = was

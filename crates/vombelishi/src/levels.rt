@@ -5,10 +5,10 @@ use crate::record::record_of;
 ghost use mathlib.Core.Path.{_≡_};
 ghost use Rattle.colours.specs.Grey.{greyOf};
 ghost use Rattle.colours.specs.Pin.{pinOf};
-ghost use Rattle.vombelishi.specs.Code.{answerCode, cellBy};
-ghost use Rattle.vombelishi.specs.Pictures.{colourCall};
+ghost use Rattle.vombelishi.specs.Code.{answerCode, partBy};
+ghost use Rattle.vombelishi.specs.Pictures.{colourCall, colourPart, supremacyPart};
 
-// The 13-bit colour of a logical pixel; 13 for slices shorter than 64.
+// The 12-bit colour of a logical pixel, and 1 where it has supremacy, else 0; 13 for slices shorter than 64.
 #[no_mangle]
 pub extern "C" fn vom_colour(
     values: &[u32],
@@ -16,16 +16,21 @@ pub extern "C" fn vom_colour(
     depth: u8,
     pixel: u8,
     colour: &mut u16,
+    supremacy: &mut u8,
 ) -> u64
     ensures { λ r. ⌜
         (r ≡ answerCode (colourCall (now (values .entry)) (now (written .entry)) depth pixel))
-        × (now (colour .exit) ≡ cellBy (colourCall (now (values .entry)) (now (written .entry)) depth pixel) (now (colour .entry)))
+        × (now (colour .exit) ≡ partBy (colourCall (now (values .entry)) (now (written .entry)) depth pixel) colourPart (now (colour .entry)))
+        × (now (supremacy .exit)
+        ≡ partBy (colourCall (now (values .entry)) (now (written .entry)) depth pixel) supremacyPart (now (supremacy .entry)))
         ⌝ }
 {
     if lacks(values, written) {
         return SHORT;
     }
-    *colour = colours::colour(record_of(values, written), depth, pixel);
+    let shown = colours::colour(record_of(values, written), depth, pixel);
+    *colour = shown.colour;
+    *supremacy = shown.supremacy as u8;
     0
 }
 

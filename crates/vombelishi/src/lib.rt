@@ -3,6 +3,7 @@ mod code;
 pub mod files;
 pub mod levels;
 pub mod loads;
+pub mod mixes;
 pub mod pictures;
 mod put;
 pub mod queued;
