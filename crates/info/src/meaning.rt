@@ -4,6 +4,7 @@ use crate::terms::put_colour;
 use crate::terms::put_control;
 use crate::terms::put_rate;
 use crate::terms::put_stereo;
+use colours::apart::Apart;
 use registers::record::Registers;
 use registers::setting::Setting;
 
@@ -77,12 +78,12 @@ pub fn put_meaning(line: Line, g: Registers, address: usize) -> Line {
     match address {
         Registers::PALETTE_0..=Registers::PALETTE_15 => put_colour(
             line,
-            g.palette((address / 4) as u8),
+            Apart::of(g.palette((address / 4) as u8)),
         ),
-        Registers::BORDER => put_colour(line, g.border()),
+        Registers::BORDER => put_colour(line, Apart::of(g.border())),
         Registers::CURSOR_1..=Registers::CURSOR_3 => put_colour(
             line,
-            g.cursor_colour((address / 4 - 16) as u8),
+            Apart::of(g.cursor_colour((address / 4 - 16) as u8)),
         ),
         Registers::STEREO_7..=Registers::STEREO_6 => put_stereo(
             line,

@@ -1,19 +1,21 @@
 // Values in words: colours, the depth, sixths, the sound's rate, the control bits.
 use crate::line::Line;
+use colours::apart::Apart;
 use registers::record::Registers;
 use sound::Pairing;
 
 // A sound byte of amplitude 1: its two values are the sixths themselves.
 const LEAST_SOUND: u8 = 2;
 
-pub fn put_colour(line: Line, colour: u16) -> Line {
+pub fn put_colour(line: Line, shown: Apart) -> Line {
+    let colour = shown.colour;
     let line = line.text(b"red ")
         .number((colour % 16) as u64)
         .text(b", green ")
         .number((colour / 16 % 16) as u64)
         .text(b", blue ")
         .number((colour / 256 % 16) as u64);
-    if colour / 4096 % 2 == 1 {
+    if shown.supremacy {
         return line.text(b", supremacy");
     }
     line
