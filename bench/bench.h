@@ -49,6 +49,8 @@ static inline uint32_t grey(uint16_t colour) { return 17 * (77 * (colour & 15) +
     void entries_##by(const struct picture *, uint32_t threshold, uint16_t *out); \
     void replace_##by(const struct picture *, uint32_t *video, uint32_t threshold, size_t index, uint32_t word, uint16_t *out); \
     uint32_t sound_##by(const uint8_t stereo[8], const uint32_t *words, size_t, uint32_t counter, int16_t *out); \
+    void lay_##by(const uint16_t *cells, const uint16_t *camera, size_t n, uint16_t *out); \
+    size_t mix_##by(const uint16_t *cells, const uint16_t *camera, size_t n, uint16_t *out); \
     void copy_##by(const uint8_t *file, size_t words, uint32_t *out); \
     void put_##by(const uint32_t *words, size_t, uint8_t *out); \
     vom_queue fresh_##by(uint16_t kind); \

@@ -19,7 +19,7 @@ enum { MOST_RUNS = 7, MOST_ROUNDS = 1000 };
 // What ours wrote, kept to be compared.
 static uint32_t words_kept[PLATE_WORDS];
 static uint8_t file_kept[PLATE];
-static uint16_t cells_kept[LARGEST], entries_kept[ENTRIES];
+static uint16_t cells_kept[LARGEST], entries_kept[ENTRIES], mixed_kept[LONGEST];
 static int16_t sound_kept[SOUNDS * 8];
 static const struct record *record; // the same registers in the Rust wrapper's type
 
@@ -31,6 +31,8 @@ static void mem_put(void) { memcpy(file_out, noise, 4 * PLATE_WORDS); }
 #ifndef CLANG
 #define tuned_clang NULL
 #define by_lines_clang NULL
+#define loop_mix_clang NULL
+#define unjudged_mix_clang NULL
 #define loop_sound_clang NULL
 #define loop_copy_clang NULL
 #define loop_put_clang NULL
@@ -116,6 +118,16 @@ static void same_entries(work *ours, work *other) {
 
 static void same_summaries(void) { same_entries(ours_summaries, entry_cells_gcc); }
 static void same_replaced(void) { same_entries(ours_replace, replace_cells_gcc); }
+
+static void same_mix(work *other) {
+    if (!other) return;
+    memset(mixed, 0xAA, sizeof mixed);
+    ours_mix();
+    memcpy(mixed_kept, mixed, sizeof mixed);
+    memset(mixed, 0xAA, sizeof mixed);
+    other();
+    if (memcmp(mixed, mixed_kept, sizeof mixed)) die("the mixed rasters differ");
+}
 
 static void same_sound(work *other) {
     if (!other) return;
@@ -255,6 +267,19 @@ static void time_replaced(void) {
     for (int size = 0; size < 3; size++) rows(&sizes[size], same_replaced, runs, 3);
 }
 
+// One raster; the last two columns are of a loop that judges no number of the camera.
+static void time_mix(void) {
+    work *const runs[5] = {ours_mix, loop_mix_gcc, loop_mix_clang, unjudged_mix_gcc, unjudged_mix_clang};
+    printf("\n%-26s %9s %9s %9s %9s %9s\n", "one raster mixed", "ours us", "loop gcc", "clang", "unjudged", "clang");
+    for (int size = 0; size < 2; size++) {
+        char name[64];
+        sizes[size].set(8);
+        for (int i = 1; i < 5; i++) same_mix(runs[i]);
+        sprintf(name, "%u cells", pic.n);
+        row(name, runs, 5, 400);
+    }
+}
+
 static void time_sound(void) {
     set_sound();
     same_sound(loop_sound_gcc);
@@ -302,6 +327,7 @@ int main(int count, char **words) {
     time_marks();
     time_summaries();
     time_replaced();
+    time_mix();
     time_sound();
     time_plates();
     time_queue();

@@ -6,7 +6,7 @@
 
 uint32_t values[64], noise[PLATE_WORDS], words_out[PLATE_WORDS];
 uint8_t written[64], file[PLATE], file_out[PLATE], bytes_out[4 * QUEUED];
-uint16_t cells[LARGEST], entries[ENTRIES];
+uint16_t cells[LARGEST], entries[ENTRIES], mixed[LONGEST];
 int16_t sound_out[SOUNDS * 8];
 uint32_t after;
 uint64_t marks, length, loaded;
@@ -16,6 +16,8 @@ static uint8_t stereo[8], text[LONGEST_TEXT];
 static struct picture kept;
 static uint32_t list[LARGEST / 4], new_word;
 static size_t place;
+// One raster's cells, of every code, and a camera's colours.
+static uint16_t raster[LONGEST], camera[LONGEST];
 
 #define GIVEN values, 64, written, 64
 #define LISTS pic.video, pic.video_words, pic.shape, pic.cursor_words
@@ -33,6 +35,7 @@ void make_noise(void) {
         x ^= x << 13, x ^= x >> 17, x ^= x << 5;
         noise[i] = x;
     }
+    for (size_t i = 0; i < LONGEST; i++) raster[i] = noise[i], camera[i] = noise[i] >> 20;
 }
 
 static uint32_t registers[128];
@@ -136,6 +139,7 @@ void ours_replace(void) {
     if (vom_replace(GIVEN, list, kept.video_words, kept.shape, kept.cursor_words, 128, place, new_word, entries, ENTRIES))
         die("the word was refused");
 }
+void ours_mix(void) { if (vom_mix(GIVEN, raster, LONGEST, camera, LONGEST, mixed, LONGEST)) die("the mixing was refused"); }
 void ours_sound(void) {
     after = 5;
     if (vom_sound(GIVEN, noise, SOUNDS, &after, sound_out, SOUNDS * 8)) die("sound was refused");
@@ -180,6 +184,8 @@ void ours_queue(void) { through(vom_queue_fresh, vom_queue_ask, vom_queue_load, 
     void count_cells_##by(void) { marks = count_##by(&pic, 128); } \
     void entry_cells_##by(void) { entries_##by(&pic, 128, entries); } \
     void replace_cells_##by(void) { replace_##by(&kept, list, 128, place, new_word, entries); } \
+    void loop_mix_##by(void) { if (mix_##by(raster, camera, pic.n, mixed) != pic.n) die("the loop's mixing was refused"); } \
+    void unjudged_mix_##by(void) { lay_##by(raster, camera, pic.n, mixed); } \
     void loop_sound_##by(void) { after = sound_##by(stereo, noise, SOUNDS, 5, sound_out); } \
     void loop_copy_##by(void) { copy_##by(file, PLATE_WORDS, words_out); } \
     void loop_put_##by(void) { put_##by(noise, PLATE_WORDS, file_out); } \

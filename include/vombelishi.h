@@ -3,8 +3,8 @@
  *
  * Slices. Each slice is a pointer and, right behind it, its length in elements. The pointer of an empty slice may be
  * NULL. Nothing is written beyond a slice's end, and of a slice that is longer than needed only the first elements
- * are used. A pointer without a length (`count`, `colour`, `counter`, `size`, `words` of vom_sync_ask) is that of one
- * number, and may not be NULL. What a call writes may not overlap anything else that is handed to that call.
+ * are used. A pointer without a length (`count`, `colour`, `supremacy`, `counter`, `size`, `words` of vom_sync_ask) is
+ * that of one number, and may not be NULL. What a call writes may not overlap anything else that is handed to that call.
  *
  * Lent to be changed, so that what stands there counts, are the record of vom_load and vom_load_word, `counter`, a
  * queue, and `video` and `entries` of vom_replace. Every other pointer that is not const is lent for an answer.
@@ -70,6 +70,7 @@ extern "C" {
 #define VOM_REFUSED_EMPTY 17 /* read from an empty queue */
 #define VOM_REFUSED_WORD_INDEX 18 /* a word index outside the list */
 #define VOM_REFUSED_SYNC_WIDTH 19 /* the cursor is on, and 6 * HS is below 5 * the pixel rate in MHz */
+#define VOM_REFUSED_CAMERA 20 /* a camera number above 4,095; detail: the index of the first such number */
 
 /* One of the chip's queues. Its depth is 8 words for video, else 4. */
 typedef struct vom_queue {
@@ -109,7 +110,7 @@ uint64_t vom_check(const uint32_t *values, size_t values_len, const uint8_t *wri
 uint64_t vom_check_sound(const uint32_t *values, size_t values_len, const uint8_t *written, size_t written_len);
 
 /* Paints a frame. Refusals: 13 (record), 3 to 6, 19, 7 to 9, 11, 13 (`cells` shorter than N * V). Writes N * V cells,
- * raster after raster, each its code * 8192 + its 13-bit colour. */
+ * raster after raster, each its code * 8192 + its supremacy * 4096 + its 12-bit colour. */
 uint64_t vom_frame(const uint32_t *values, size_t values_len, const uint8_t *written, size_t written_len,
                    const uint32_t *video, size_t video_len, const uint32_t *cursor, size_t cursor_len,
                    uint16_t *cells, size_t cells_len);
@@ -149,10 +150,19 @@ uint64_t vom_replace(const uint32_t *values, size_t values_len, const uint8_t *w
                      uint32_t *video, size_t video_len, const uint32_t *cursor, size_t cursor_len, uint8_t threshold,
                      size_t index, uint32_t word, uint16_t *entries, size_t entries_len);
 
-/* The 13-bit colour that a logical pixel shows: by the palette entry pixel % 16, and at depth 8 by the pixel's high
- * bits too; at any other depth the entry itself. Refusal: 13 (record). Writes one colour to `colour`. */
+/* Lays one raster's cells over a camera's colours: where a cell's code is 4, 5 or 6 and its supremacy is set, the
+ * camera's number at that place, else the cell's own 12-bit colour. Any number is taken for a cell; beyond N nothing is
+ * read. Refusals: 13 (record), 3 to 6, 19, 7 to 9, 13 (`cells`, `camera` or `mixed` shorter than N), 20 (of the first N
+ * camera numbers). Writes N colours to `mixed`. */
+uint64_t vom_mix(const uint32_t *values, size_t values_len, const uint8_t *written, size_t written_len,
+                 const uint16_t *cells, size_t cells_len, const uint16_t *camera, size_t camera_len, uint16_t *mixed,
+                 size_t mixed_len);
+
+/* The 12-bit colour that a logical pixel shows, and its supremacy: by the palette entry pixel % 16, and at depth 8 the
+ * colour by the pixel's high bits too; at any other depth the entry itself. Refusal: 13 (record). Writes one colour to
+ * `colour`, and 1 where it has supremacy, else 0, to `supremacy`. */
 uint64_t vom_colour(const uint32_t *values, size_t values_len, const uint8_t *written, size_t written_len,
-                    uint8_t depth, uint8_t pixel, uint16_t *colour);
+                    uint8_t depth, uint8_t pixel, uint16_t *colour, uint8_t *supremacy);
 
 /* The grey of a colour, 0 to 255, by its 12 lowest bits: 17 (77 red + 150 green + 29 blue) / 256, rounded down. */
 uint8_t vom_grey(uint16_t colour);

@@ -36,6 +36,7 @@ static void load_small(void) {
 static void no_record(void) {
     uint32_t setting[VOM_SETTING], counter = 7, words = 7;
     uint16_t cells[192], colour = 7, entry[VOM_ENTRY];
+    uint8_t supremacy = 7;
     uint64_t place[2], count = 7;
     int16_t out[8];
     is("vom_load, no values", vom_load(NONE, written, VOM_REGISTERS, video, 0) == SHORT);
@@ -49,7 +50,8 @@ static void no_record(void) {
     is("vom_marks, no record", vom_marks(NONE, NONE, video, 1, NONE, 0, &count) == SHORT && count == 7);
     is("vom_summaries, no record", vom_summaries(NONE, NONE, video, 1, NONE, 0, entry, VOM_ENTRY) == SHORT);
     is("vom_replace, no record", vom_replace(NONE, NONE, video, 1, NONE, 0, 0, 7, entry, VOM_ENTRY) == SHORT && video[0] == 0x76543210);
-    is("vom_colour, no record", vom_colour(NONE, NONE, 8, 1, &colour) == SHORT && colour == 7);
+    is("vom_colour, no record", vom_colour(NONE, NONE, 8, 1, &colour, &supremacy) == SHORT && colour == 7 && supremacy == 7);
+    is("vom_mix, no record", vom_mix(NONE, NONE, cells, 192, cells, 192, NONE) == SHORT);
     is("vom_sound, no record", vom_sound(NONE, NONE, NONE, &counter, out, 8) == SHORT && counter == 7);
     is("vom_sync_ask, no record", vom_sync_ask(NONE, NONE, VOM_VIDEO, 3, &words) == SHORT && words == 7);
 }
@@ -77,6 +79,10 @@ static void no_lists(void) {
 
 static void no_answers(void) {
     uint32_t word = 0x20202020, counter = 7;
+    uint16_t list[32] = {0}, mixed[32] = {7};
+    is("vom_mix, no cells", vom_mix(GIVEN, NONE, list, 32, mixed, 32) == SHORT && mixed[0] == 7);
+    is("vom_mix, no camera", vom_mix(GIVEN, list, 32, NONE, mixed, 32) == SHORT && mixed[0] == 7);
+    is("vom_mix, no mixed", vom_mix(GIVEN, list, 32, list, 32, NONE) == SHORT);
     is("vom_check, no setting", vom_check(GIVEN, NONE) == SHORT);
     is("vom_frame, no cells", vom_frame(GIVEN, NONE, NONE, NONE) == SHORT);
     is("vom_raster, no cells", vom_raster(GIVEN, NONE, NONE, 3, NONE) == SHORT);

@@ -118,12 +118,20 @@ extern "C" {
         word: u32,
         entries: *mut u16, entries_len: usize,
     ) -> u64;
+    pub fn vom_mix(
+        values: *const u32, values_len: usize,
+        written: *const u8, written_len: usize,
+        cells: *const u16, cells_len: usize,
+        camera: *const u16, camera_len: usize,
+        mixed: *mut u16, mixed_len: usize,
+    ) -> u64;
     pub fn vom_colour(
         values: *const u32, values_len: usize,
         written: *const u8, written_len: usize,
         depth: u8,
         pixel: u8,
         colour: *mut u16,
+        supremacy: *mut u8,
     ) -> u64;
     pub fn vom_grey(colour: u16) -> u8;
     pub fn vom_pin(code: u8, control: u32) -> u8;

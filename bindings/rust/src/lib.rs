@@ -2,6 +2,7 @@
 #![deny(missing_docs)]
 
 pub mod calls;
+mod colours;
 mod entries;
 pub mod plate;
 mod queue;
@@ -11,6 +12,7 @@ mod setting;
 mod single;
 
 pub use calls::Queue;
+pub use colours::Apart;
 pub use entries::Entry;
 pub use queue::Reply;
 pub use record::Record;

@@ -16,7 +16,7 @@ pub struct Record {
     pub written: [u8; 64],
 }
 
-const LONG_ENOUGH: &str = "only a record shorter than 64 is refused";
+pub(crate) const LONG_ENOUGH: &str = "only a record shorter than 64 is refused";
 
 impl Default for Record {
     fn default() -> Record {
@@ -75,8 +75,8 @@ impl Record {
         answer(unsafe { vom_check_sound(self.values.as_ptr(), 64, self.written.as_ptr(), 64) })
     }
 
-    /// Paints a frame: N * V cells at the start of `cells`, raster after raster, each its code * 8192 + its 13-bit
-    /// colour. Refusals: 3 to 6, 19, 7 to 9, 11, 13.
+    /// Paints a frame: N * V cells at the start of `cells`, raster after raster, each its code * 8192 + its
+    /// supremacy * 4096 + its 12-bit colour. Refusals: 3 to 6, 19, 7 to 9, 11, 13.
     pub fn frame(&self, video: &[u32], cursor: &[u32], cells: &mut [u16]) -> Result<(), Refusal> {
         // SAFETY: see `calls`.
         answer(unsafe {
@@ -144,18 +144,6 @@ impl Record {
             )
         })?;
         Ok(count)
-    }
-
-    /// The 13-bit colour that a logical pixel shows: by the palette entry `pixel` % 16, and at depth 8 by the pixel's
-    /// high bits too; at any other depth the entry itself.
-    pub fn colour(&self, depth: u8, pixel: u8) -> u16 {
-        let mut colour = 0;
-        // SAFETY: see `calls`.
-        let told = answer(unsafe {
-            vom_colour(self.values.as_ptr(), 64, self.written.as_ptr(), 64, depth, pixel, &mut colour)
-        });
-        told.expect(LONG_ENOUGH);
-        colour
     }
 
     /// How many words the sync of a raster, from its start to its end, asks of a queue of a kind: 8 of video on the first

@@ -8,12 +8,12 @@ use std::fmt;
 pub struct Refusal {
     /// The row of the table.
     pub number: u32,
-    /// 0, but for 2 (the index of the first such word), 3 and 10 (the lowest such address).
+    /// 0, but for 2 and 20 (the index of the first such word or number), 3 and 10 (the lowest such address).
     pub detail: u32,
 }
 
 /// The table's rows: number, and when it is given.
-const RULES: [(u32, &str); 19] = [
+const RULES: [(u32, &str); 20] = [
     (1, "more than 1,024 register words"),
     (2, "a reserved address"),
     (3, "a needed register is unwritten"),
@@ -33,6 +33,7 @@ const RULES: [(u32, &str); 19] = [
     (17, "read from an empty queue"),
     (18, "a word index outside the list"),
     (19, "the cursor is on, and 6 * HS is below 5 * the pixel rate in MHz"),
+    (20, "a camera number above 4,095"),
 ];
 
 impl Refusal {
@@ -49,6 +50,7 @@ impl fmt::Display for Refusal {
         write!(to, "refused {number} {detail}: {}", self.rule())?;
         match (number, detail) {
             (2, index) => write!(to, ", word {index}"),
+            (20, index) => write!(to, ", number {index}"),
             (10, 0) => Ok(()), // a byte's own stereo value has no address
             (3 | 10, address) => write!(to, ", address {address:02X}H"),
             _ => Ok(()),

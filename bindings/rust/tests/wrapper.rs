@@ -2,7 +2,7 @@
 //! queues, what refusals say.
 
 use vombelishi::plate::{self, Places};
-use vombelishi::{sound_pair_into, Entry, Queue, Record, Refusal, Reply};
+use vombelishi::{sound_pair_into, Apart, Entry, Queue, Record, Refusal, Reply};
 
 const SMALL: &[u8] = include_bytes!("../../../samples/small.plate");
 const SHORT: Result<(), Refusal> = Err(Refusal { number: 13, detail: 0 });
@@ -84,8 +84,29 @@ fn a_load_changes_the_named_registers_alone() {
 #[test]
 fn a_pixels_colour() {
     let record = loaded(&[0x3C00_1FFF]);
-    assert_eq!([0x0F, 0xFF].map(|pixel| record.colour(8, pixel)), [0x1737, 0x1FFF]);
-    assert_eq!(record.colour(4, 0x0F), 0x1FFF);
+    let shown = |colour, supremacy| Apart { colour, supremacy };
+    assert_eq!([0x0F, 0xFF].map(|pixel| record.colour(8, pixel)), [shown(0x737, true), shown(0xFFF, true)]);
+    assert_eq!(record.colour(4, 0x0F), shown(0xFFF, true));
+    assert_eq!(loaded(&[0x3C00_0FFF]).colour(8, 0x0F), shown(0x737, false));
+}
+
+#[test]
+fn a_raster_over_a_camera() {
+    let (places, words) = small();
+    let mut record = loaded(places.sections(&words)[0]);
+    record.load(&[0x4000_1F00, 0x0800_1002]).unwrap(); // supremacy of the border, and of entry 2
+    let (mut cells, mut mixed) = ([0; 32], [7; 33]);
+    record.raster(&[0x7654_3210], &[], 3, &mut cells).unwrap();
+    let mut camera: Vec<u16> = (0x100..0x120).collect();
+    camera.push(0x1000); // beyond N: not looked at
+    assert_eq!(record.mix(&cells, &camera, &mut mixed), Ok(()));
+    assert_eq!(mixed[..7], [0; 7]); // sync and blank
+    assert_eq!(mixed[7..19], [0x107, 0x108, 0x109, 0x10A, 0, 1, 0x10D, 3, 4, 5, 6, 7]);
+    assert_eq!((mixed[19], mixed[22], mixed[23], mixed[32]), (0x113, 0x116, 0, 7));
+    (camera[30], camera[31]) = (0x1000, 0xFFFF);
+    assert_eq!(record.mix(&cells, &camera, &mut mixed), Err(Refusal { number: 20, detail: 30 }));
+    assert_eq!(record.mix(&cells[..31], &camera, &mut mixed), SHORT);
+    assert_eq!((mixed[8], mixed[32]), (0x108, 7));
 }
 
 /// Lends one place too few, and sees that what is there stays.
@@ -104,6 +125,7 @@ fn short_memory() {
     short(21, |setting| record.check_into(setting));
     short(192, |cells| record.frame(video, cursor, cells));
     short(32, |cells| record.raster(video, cursor, 0, cells));
+    short(32, |mixed| record.mix(&[0; 32], &[0; 32], mixed));
     short(2, |place| record.raster_words_into(video, 0, place));
     short(8, |out| player().sound(&[0], &mut 0, out));
     short(2, |pair| sound_pair_into(0, 1, pair));
@@ -269,5 +291,6 @@ fn a_refusal_says_number_detail_and_rule() {
     assert_eq!(says(17, 0), "refused 17 0: read from an empty queue");
     assert_eq!(says(18, 0), "refused 18 0: a word index outside the list");
     assert_eq!(says(19, 0), "refused 19 0: the cursor is on, and 6 * HS is below 5 * the pixel rate in MHz");
-    assert_eq!(says(20, 0), "refused 20 0: not in the table");
+    assert_eq!(says(20, 7), "refused 20 7: a camera number above 4,095, number 7");
+    assert_eq!(says(21, 0), "refused 21 0: not in the table");
 }

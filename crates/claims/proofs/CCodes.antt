@@ -1,6 +1,6 @@
 -- What a number for C says is what the call tells: a refusal's number is not 0 and its detail is below 2^32 wherever its row is the first
 -- to hold, so that the one is read above 2^32 and the other below; and a refusal leaves what was lent.
-use Prim.Native.Nat.{ℕ, _+_, _*_, _^_, _<_}
+use Prim.Native.Nat.{ℕ, _+_, _*_, _^_, _<_, _≤_}
 use mathlib.Core.Path.{_≡_, refl, sym, _∙_, ap}
 use mathlib.Core.Bool.{Bool, true, false, _&&_}
 use mathlib.Core.List.{List, [], _∷_, _++_}
@@ -14,9 +14,11 @@ use Rattle.buffers.proofs.Tests.{and-split}
 use Rattle.refusals.specs.Table.{Why, why, Told, given, refused, Row, row, judged, andThen, unlessRefused}
 use Rattle.registers.specs.Load.{leading, loadTable}
 use Rattle.registers.specs.Check.{unwritten, settingTable}
+use Rattle.registers.specs.Setting.{settingOf}
 use Rattle.registers.specs.Sound.{soundUnwritten, soundFault, soundTable}
 use Rattle.registers.specs.declared.record.Registers.{Registers}
 use Rattle.refusals.proofs.Tables.{never}
+use Rattle.mixing.specs.Mix.{firstTooLarge, mixTable}
 use Rattle.vombelishi.specs.Code.{answerCode, withRoom}
 use Rattle.vombelishi.specs.Record.{lacking, recordOf, recordTold, underRecord}
 use Rattle.claims.specs.Calls.{ByTable, Kept}
@@ -151,6 +153,16 @@ setting-fits g =
 pub sound-fits : (g : Registers) → Fits (soundTable g)
 sound-fits g =
     detailed (omega arith) (low-slot (soundUnwritten g)) (λ e. detailed (omega arith) (low-slot (soundFault g)) (λ h. no-rows))
+
+-- N is at most 2,048, whatever a record holds.
+few-places : (g : Registers) → settingOf g .n .0 ≤ 2048
+unfolding settingOf
+few-places g = omega arith
+
+pub mix-fits : (g : Registers) (cells camera : List ℕ) (room : ℕ) → Fits (mixTable g cells camera room)
+mix-fits g cells camera room =
+    fits-after (setting-fits g)
+    (plain (omega arith) (detailed (omega arith) (λ e. omega (arith, ltb-true (firstTooLarge camera (settingOf g .n .0)) _ e, few-places g)) (λ e. no-rows)))
 
 pub load-fits : (words : List ℕ) → Fits (loadTable words)
 load-fits words =

@@ -18,7 +18,10 @@ use Rattle.registers.proofs.Told.{load-told, check-told, sound-told}
 use Rattle.queues.specs.Syncs.{syncAsk}
 use Rattle.queues.specs.Steps.{loadTable as queueLoadTable, readTable as queueReadTable}
 use Rattle.queues.specs.declared.Queue.{Queue}
+use Rattle.colours.specs.Apart.{apartOf}
 use Rattle.colours.specs.Colour.{colourOf}
+use Rattle.mixing.specs.Mix.{mixTable, mixTold, mixLeaves, mixedAt}
+use Rattle.mixing.proofs.Calls.{mix-told}
 use Rattle.cells.specs.Picture.{pictureTable}
 use Rattle.frame.specs.Frame.{cells, frameCell, frameTable, frameTold, frameLeaves, rasterCell, rasterTable, rasterTold, rasterLeaves}
 use Rattle.frame.proofs.Told.{frame-told, raster-told}
@@ -35,12 +38,13 @@ use Rattle.plates.specs.Plate.{sectionsOf, plateOf, plateLength}
 use Rattle.plates.specs.Read.{readTable, copyTable, copyTold, copied}
 use Rattle.plates.specs.Write.{writeTable, writeTold}
 use Rattle.outputs.specs.Text.{textOf}
-use Rattle.vombelishi.specs.Code.{storedBy, cellBy}
+use Rattle.vombelishi.specs.Code.{storedBy, cellBy, partBy}
 use Rattle.vombelishi.specs.Record.{recordOf, recordTold}
 use Rattle.vombelishi.specs.Load.{valueStored, flagStored, valuesStored, flagsStored, loadCall, loadValuesLeaves, loadWrittenLeaves}
 use Rattle.vombelishi.specs.Load.{wordCall, wordValuesLeaves, wordWrittenLeaves}
 use Rattle.vombelishi.specs.Settings.{numbersOf, settingTold, checkCall, checkSoundCall}
-use Rattle.vombelishi.specs.Pictures.{frameCall, frameCallLeaves, rasterCall, rasterCallLeaves, foundTold, wordsCall, marksCall, colourCall}
+use Rattle.vombelishi.specs.Pictures.{frameCall, frameCallLeaves, rasterCall, rasterCallLeaves, foundTold, wordsCall, marksCall}
+use Rattle.vombelishi.specs.Pictures.{colourCall, colourPart, supremacyPart, mixCall, mixCallLeaves}
 use Rattle.vombelishi.specs.Summaries.{summariesCall, summariesCallLeaves, replaceCall, videoCallLeaves, replaceCallLeaves}
 use Rattle.vombelishi.specs.Queued.{syncCall}
 use Rattle.vombelishi.specs.Sounds.{soundCall, soundLeaves, counterLeaves, pairCall}
@@ -53,8 +57,8 @@ use Rattle.claims.specs.Calls.{Every, numbers, settingNumbers, ByTable, 
 use Rattle.claims.specs.CRows.{ofRecord, roomFor, textRows}
 use Rattle.claims.specs.CViews as c
 use Rattle.claims.specs.CViews.{LoadRun, CheckRun, CheckSoundRun, FrameRun, RasterRun, WordsRun, MarksRun, SummariesRun, ReplaceRun}
-use Rattle.claims.specs.CViews.{ColourRun, SyncRun, SoundRun, PairRun, FileRun, WriteRun, TextRun}
-use Rattle.claims.proofs.CCodes.{no-rows, plain, fits-after, setting-fits, sound-fits, load-fits}
+use Rattle.claims.specs.CViews.{ColourRun, MixRun, SyncRun, SoundRun, PairRun, FileRun, WriteRun, TextRun}
+use Rattle.claims.proofs.CCodes.{no-rows, plain, fits-after, setting-fits, sound-fits, mix-fits, load-fits}
 use Rattle.claims.proofs.CCodes.{by-code, kept-code, kept-under, record-told, record-fits, record-code, room-code}
 
 -- The numbers of each table, in its order.
@@ -90,6 +94,10 @@ module _ (values written : List ℕ) where
     pub vom-replace-numbers : (index places : ℕ)
         → numbers (ofRecord values written λ g. replaceTable g video cursor index places) ≡ 13 ∷ (settingNumbers ++ (11 ∷ 18 ∷ 13 ∷ []))
     vom-replace-numbers index places = refl
+
+  pub vom-mix-numbers : (cells camera : List ℕ) (places : ℕ)
+      → numbers (ofRecord values written λ g. mixTable g cells camera places) ≡ 13 ∷ (settingNumbers ++ (13 ∷ 20 ∷ []))
+  vom-mix-numbers cells camera places = refl
 
   pub vom-raster-words-numbers : (video : List ℕ) (y places : ℕ)
       → numbers ((ofRecord values written λ g. stretchTable g video y) ++ roomFor 2 places) ≡ 13 ∷ (settingNumbers ++ (11 ∷ 12 ∷ 13 ∷ []))
@@ -263,13 +271,31 @@ vom-replace-refuses κs a x s p =
     )
 
 pub vom-colour-refuses : Every c.colour λ run.
-    ByTable (run .answer) (ofRecord (run .values) (run .written) λ g. []) tt × Kept (run .answer) (run .before) (run .after)
+    ByTable (run .answer) (ofRecord (run .values) (run .written) λ g. []) tt
+    × Kept (run .answer) (run .before) (run .after) × Kept (run .answer) (run .supremacy-before) (run .supremacy-after)
 unfolding colourCall
 vom-colour-refuses κs a x s p =
-    let run : ColourRun = c.colour .seen κs a x s in (
-      record-code (run .values) (run .written) (λ g. given (colourOf g (run .depth) (run .pixel))) (λ g. [])
-          (λ g. colourOf g (run .depth) (run .pixel)) (λ g. no-rows) (λ g. refl) (p .0),
-      kept-code (colourCall (run .values) (run .written) (run .depth) (run .pixel)) (λ u. cellBy u (run .before)) (p .0) (p .1) (λ w. refl),
+    let run : ColourRun = c.colour .seen κs a x s in
+    let t = colourCall (run .values) (run .written) (run .depth) (run .pixel) in (
+      record-code (run .values) (run .written) (λ g. given (apartOf (colourOf g (run .depth) (run .pixel)))) (λ g. [])
+          (λ g. apartOf (colourOf g (run .depth) (run .pixel))) (λ g. no-rows) (λ g. refl) (p .0),
+      kept-code t (λ u. partBy u colourPart (run .before)) (p .0) (p .1) (λ w. refl),
+      kept-code t (λ u. partBy u supremacyPart (run .supremacy-before)) (p .0) (p .2) (λ w. refl),
+    )
+
+-- Mixing: the index of a camera's number is below N, which is at most 2,048.
+pub vom-mix-refuses : Every c.mix λ run.
+    ByTable (run .answer) (ofRecord (run .values) (run .written) λ g. mixTable g (run .cells) (run .camera) (length (run .before))) tt
+    × Kept (run .answer) (run .before) (run .after)
+unfolding mixCall mixCallLeaves mixLeaves
+vom-mix-refuses κs a x s p =
+    let run : MixRun = c.mix .seen κs a x s in
+    let tells : Registers → Told (Unit {0}) = λ g. mixTold g (run .cells) (run .camera) (length (run .before)) in (
+      record-code (run .values) (run .written) tells (λ g. mixTable g (run .cells) (run .camera) (length (run .before))) (λ g. tt)
+          (λ g. mix-fits g (run .cells) (run .camera) (length (run .before)))
+          (λ g. mix-told g (run .cells) (run .camera) (length (run .before))) (p .0),
+      kept-under (recordTold (run .values) (run .written)) tells (λ g. mixLeaves g (run .cells) (run .camera) (run .before))
+          (λ g. painted (run .before) 0 (settingOf g .n .0) (mixedAt (run .cells) (run .camera))) (λ g. refl) (p .0) (p .1),
     )
 
 -- Queues. What the calls on a lent queue refuse is in `Lent`.

@@ -11,11 +11,12 @@ pub use Rattle.registers.proofs.Unique.{one-check-sound}
 pub use Rattle.queues.proofs.Unique.{one-fresh, one-load-by-value, one-read-by-value, one-vertical-sync-by-value, one-ask-by-value}
 pub use Rattle.queues.proofs.Unique.{one-horizontal-sync, one-sync-ends, one-cursor-ask, one-video-ask, one-sync-ask}
 pub use Rattle.queues.proofs.Unique.{one-queue-load, one-queue-read, one-queue-vertical-sync, one-queue-ask}
-pub use Rattle.colours.proofs.Unique.{one-shown, one-colour, one-entries, one-grey, one-pin}
+pub use Rattle.colours.proofs.Unique.{one-of, one-cell, one-shown, one-colour, one-entries, one-grey, one-pin}
 pub use Rattle.cells.proofs.Unique.{one-words-wrong, one-judge}
 pub use Rattle.frame.proofs.Unique.{one-frame, one-raster}
 pub use Rattle.marks.proofs.Unique.{one-marks, one-summaries, one-replace}
 pub use Rattle.stretch.proofs.Unique.{one-find, one-raster-words, one-raster-words-answer}
+pub use Rattle.mixing.proofs.Unique.{one-mix}
 pub use Rattle.sound.proofs.Unique.{one-pair, one-play}
 pub use Rattle.plates.proofs.Unique.{one-read, one-copy-out, one-write}
 pub use Rattle.pictures.proofs.Unique.{one-guns}
@@ -26,4 +27,4 @@ pub use Rattle.vombelishi.proofs.Unique.{one-vom-read, one-vom-copy, one-vom-wr
 pub use Rattle.vombelishi.proofs.Unique.{one-vom-load-word, one-vom-frame, one-vom-raster, one-vom-raster-words, one-vom-marks, one-vom-check}
 pub use Rattle.vombelishi.proofs.Unique.{one-vom-summaries, one-vom-replace, one-vom-check-sound, one-vom-sound, one-vom-sound-pair, one-vom-text}
 pub use Rattle.vombelishi.proofs.Unique.{one-vom-queue-fresh, one-vom-queue-load, one-vom-queue-read, one-vom-queue-vertical-sync}
-pub use Rattle.vombelishi.proofs.Unique.{one-vom-queue-ask, one-vom-sync-ask}
+pub use Rattle.vombelishi.proofs.Unique.{one-vom-queue-ask, one-vom-sync-ask, one-vom-mix}

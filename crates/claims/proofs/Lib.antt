@@ -17,5 +17,6 @@ pub mod PerRaster
 pub mod Printed
 pub mod Cases
 pub mod Sync
+pub mod Mixing
 pub mod SmallText
 pub mod Coincide

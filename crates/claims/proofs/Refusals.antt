@@ -20,6 +20,8 @@ use Rattle.cells.proofs.Pictures.{picture-told}
 use Rattle.frame.proofs.Told.{frame-told, raster-told}
 use Rattle.marks.proofs.Told.{marks-told, summaries-told, replace-told}
 use Rattle.stretch.proofs.Told.{stretch-told}
+use Rattle.mixing.specs.Mix.{mixTable, mixLeaves, mixedAt}
+use Rattle.mixing.proofs.Calls.{mix-told}
 use Rattle.marks.specs.Marks.{marksOf}
 use Rattle.marks.specs.Summaries.{entriesLength, entryNumber, rasterOf, summariesTable, summariesLeaves}
 use Rattle.marks.specs.Summaries.{replaceTable, videoLeaves, replaceLeaves}
@@ -35,7 +37,7 @@ use Rattle.sound.proofs.Told.{play-told, pair-told}
 use Rattle.plates.proofs.Told.{read-told, copy-told, write-told}
 use Rattle.claims.specs.Calls.{Every, numbers, settingNumbers, ByTable, Kept}
 use Rattle.claims.specs.Views as call
-use Rattle.claims.specs.Views.{LoadRun, PictureRun, FrameRun, RasterRun, MarksRun, SummariesRun, ReplaceRun, StretchRun}
+use Rattle.claims.specs.Views.{LoadRun, PictureRun, FrameRun, RasterRun, MixRun, MarksRun, SummariesRun, ReplaceRun, StretchRun}
 use Rattle.claims.specs.Views.{PlayRun, PairRun, CopyRun, WriteRun}
 use Rattle.claims.proofs.Tables.{by-table, kept}
 
@@ -68,6 +70,10 @@ summaries-numbers g video cursor room = refl
 pub replace-numbers : (g : Registers) (video cursor : List ℕ) (index room : ℕ)
     → numbers (replaceTable g video cursor index room) ≡ settingNumbers ++ (11 ∷ 18 ∷ 13 ∷ [])
 replace-numbers g video cursor index room = refl
+
+-- Mixing: 20 stands last.
+pub mix-numbers : (g : Registers) (cells camera : List ℕ) (room : ℕ) → numbers (mixTable g cells camera room) ≡ settingNumbers ++ (13 ∷ 20 ∷ [])
+mix-numbers g cells camera room = refl
 
 pub raster-words-numbers : (g : Registers) (video : List ℕ) (y : ℕ) → numbers (stretchTable g video y) ≡ settingNumbers ++ (11 ∷ 12 ∷ [])
 raster-words-numbers g video y = refl
@@ -172,6 +178,18 @@ replace-refuses κs a x s p =
       by-table tt _ (p .0 ∙ replace-told g (run .video) (run .cursor) (run .index) (length (run .before))),
       kept list (p .0) (p .1),
       kept (painted (run .before) (3 * r) (3 * r + 3) (entryNumber g (settingOf g) list (run .cursor) (run .threshold))) (p .0) (p .2),
+    )
+
+-- Mixing.
+pub mix-refuses : Every call.mix λ run.
+    ByTable (run .answer) (mixTable (run .registers) (run .cells) (run .camera) (length (run .before))) tt
+    × Kept (run .answer) (run .before) (run .after)
+unfolding mixLeaves
+mix-refuses κs a x s p =
+    let run : MixRun = call.mix .seen κs a x s in
+    let g = run .registers in (
+      by-table tt _ (p .0 ∙ mix-told g (run .cells) (run .camera) (length (run .before))),
+      kept (painted (run .before) 0 (settingOf g .n .0) (mixedAt (run .cells) (run .camera))) (p .0) (p .1),
     )
 
 -- Where a raster's words stand, and of the words themselves the refusal or none.

@@ -26,6 +26,8 @@ use Rattle.vombelishi.proofs.summaries.vom_summaries.Kinds as summaries-kinds
 use Rattle.vombelishi.proofs.summaries.vom_summaries.Reads as summaries-reads
 use Rattle.vombelishi.proofs.summaries.vom_replace.Kinds as replace-kinds
 use Rattle.vombelishi.proofs.summaries.vom_replace.Reads as replace-reads
+use Rattle.vombelishi.proofs.mixes.vom_mix.Kinds as mix-kinds
+use Rattle.vombelishi.proofs.mixes.vom_mix.Reads as mix-reads
 use Rattle.vombelishi.proofs.levels.vom_colour.Kinds as colour-kinds
 use Rattle.vombelishi.proofs.levels.vom_colour.Reads as colour-reads
 use Rattle.vombelishi.proofs.queued.vom_sync_ask.Kinds as sync-ask-kinds
@@ -248,7 +250,7 @@ replace = call 5 replace-kinds.ps replace-kinds.r replace-reads.Post ReplaceRun
       after = now (s .1 .1 .1 .1 .1 .1 .1 .0);
     }
 
--- A pixel's colour.
+-- A pixel's colour, and its supremacy.
 pub record ColourRun : Type 0 where
   pub values : List ℕ
   pub written : List ℕ
@@ -257,14 +259,40 @@ pub record ColourRun : Type 0 where
   pub answer : Told (Unit {0})
   pub before : ℕ
   pub after : ℕ
+  pub supremacy-before : ℕ
+  pub supremacy-after : ℕ
 
 abbrev pub colour : Call
-colour = call 3 colour-kinds.ps colour-kinds.r colour-reads.Post ColourRun
+colour = call 4 colour-kinds.ps colour-kinds.r colour-reads.Post ColourRun
     λ κs a x s. record {
       values = now (a .0);
       written = now (a .1 .0);
       depth = a .1 .1 .0;
       pixel = a .1 .1 .1 .0;
+      answer = codeSays x;
+      before = now (a .1 .1 .1 .1 .0);
+      after = now (s .1 .1 .1 .1 .0);
+      supremacy-before = now (a .1 .1 .1 .1 .1 .0);
+      supremacy-after = now (s .1 .1 .1 .1 .1 .0);
+    }
+
+-- A raster's cells over a camera's colours.
+pub record MixRun : Type 0 where
+  pub values : List ℕ
+  pub written : List ℕ
+  pub cells : List ℕ
+  pub camera : List ℕ
+  pub answer : Told (Unit {0})
+  pub before : List ℕ
+  pub after : List ℕ
+
+abbrev pub mix : Call
+mix = call 5 mix-kinds.ps mix-kinds.r mix-reads.Post MixRun
+    λ κs a x s. record {
+      values = now (a .0);
+      written = now (a .1 .0);
+      cells = now (a .1 .1 .0);
+      camera = now (a .1 .1 .1 .0);
       answer = codeSays x;
       before = now (a .1 .1 .1 .1 .0);
       after = now (s .1 .1 .1 .1 .0);

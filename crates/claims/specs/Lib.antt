@@ -11,4 +11,5 @@ pub mod CViews
 pub mod Lent
 pub mod Marked
 pub mod Sync
+pub mod Mixing
 pub mod SmallText

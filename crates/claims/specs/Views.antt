@@ -22,6 +22,8 @@ use Rattle.frame.proofs.frame.Kinds as frame-kinds
 use Rattle.frame.proofs.frame.Reads as frame-reads
 use Rattle.frame.proofs.raster.Kinds as raster-kinds
 use Rattle.frame.proofs.raster.Reads as raster-reads
+use Rattle.mixing.proofs.mix.Kinds as mix-kinds
+use Rattle.mixing.proofs.mix.Reads as mix-reads
 use Rattle.marks.specs.Marks.{marksSays}
 use Rattle.marks.proofs.marks.Kinds as marks-kinds
 use Rattle.marks.proofs.marks.Reads as marks-reads
@@ -148,6 +150,26 @@ raster = call 3 raster-kinds.ps raster-kinds.r raster-reads.Post RasterRun
       answer = answerSays x;
       before = now (a .1 .1 .1 .1 .0);
       after = now (s .1 .1 .1 .1 .0);
+    }
+
+-- One raster's cells laid over a camera's colours.
+pub record MixRun : Type 0 where
+  pub registers : Registers
+  pub cells : List ℕ
+  pub camera : List ℕ
+  pub answer : Told (Unit {0})
+  pub before : List ℕ
+  pub after : List ℕ
+
+abbrev pub mix : Call
+mix = call 3 mix-kinds.ps mix-kinds.r mix-reads.Post MixRun
+    λ κs a x s. record {
+      registers = a .0;
+      cells = now (a .1 .0);
+      camera = now (a .1 .1 .0);
+      answer = answerSays x;
+      before = now (a .1 .1 .1 .0);
+      after = now (s .1 .1 .1 .0);
     }
 
 pub record MarksRun : Type 0 where

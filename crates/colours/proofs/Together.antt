@@ -2,7 +2,7 @@
 use Prim.Native.Nat.{ℕ, _+_, _/_, _%_, _<_, _*_}
 use mathlib.Core.Bool.{Bool, true, false}
 use mathlib.Core.Logic.{inl, inr}
-use mathlib.Core.Path.{_≡_, refl, sym, _∙_, ap}
+use mathlib.Core.Path.{_≡_, _∙_, ap}
 use native.Mathlib.Omega.{arith}
 use borrow.Author.Tests.{eqb-true, eqb-false}
 use lib.Dec.{eqb}
@@ -11,9 +11,7 @@ use Rattle.buffers.specs.Bits.{bits}
 use Rattle.buffers.specs.Pick.{pick}
 use Rattle.buffers.proofs.Split.{true-or-false}
 use Rattle.colours.specs.Apart.{apartOf, bothOf}
-use Rattle.colours.specs.Cells.{cellWith}
 use Rattle.colours.specs.declared.apart.Apart.{Apart}
-use Rattle.colours.proofs.Bounds.{shown-below}
 
 pub both-below : (a : Apart) → bothOf a < 8192
 both-below a = go (a .supremacy)

@@ -59,7 +59,7 @@ fn put_wrong_sound(line: Line, address: u32) -> Line {
     line.text(b" is 0")
 }
 
-// The rule of a refusal that says no more; 12, 13 and 16 to 18 are of calls that are not made here.
+// The rule of a refusal that says no more; 12, 13, 16 to 18 and 20 are of calls that are not made here.
 fn put_plain_rule(line: Line, number: u32) -> Line {
     match number {
         1 => line.text(b"over 1,024 register words"),

@@ -20,7 +20,7 @@ use Rattle.mixing.specs.Mix.{firstTooLarge, mixRows, mixTable, mixTold, 
 
 -- The call's own rows, for a raster of n cells.
 module _ (n : ℕ) (cells camera : List ℕ) (room : ℕ) where
-  abbrev short : Bool
+  abbrev pub short : Bool
   short = ltb (length cells) n || ltb (length camera) n || ltb room n
 
   abbrev told : Told (Unit {0})

@@ -1,19 +1,17 @@
 -- What mixing hides of a camera: every place whose cell does not show it, and nothing else. And each mixed number has 12 bits.
 use Prim.Native.Nat.{ℕ, zero, suc, _+_, _<_, _≤_}
 use mathlib.Core.Bool.{Bool, true, false}
-use mathlib.Core.List.{List, [], _∷_}
+use mathlib.Core.List.{List}
 use mathlib.Core.Logic.{_↔_}
 use mathlib.Core.Path.{_≡_, refl, sym, _∙_, ap}
 use native.Mathlib.Nat.{zero-add}
 use native.Mathlib.Omega.{arith}
-use borrow.Author.Tests.{ltb-false}
 use lib.ListN.{getD}
 use Rattle.buffers.specs.Bits.{bits}
 use Rattle.buffers.specs.Pick.{pick}
 use Rattle.buffers.specs.Values.{valuesFrom}
 use Rattle.buffers.proofs.Values.{getD-values}
-use Rattle.registers.proofs.First.{lowest-fails}
-use Rattle.mixing.specs.Mix.{showsCamera, mixedAt, mixedRaster, AgreeWhereShown, tooLarge, firstTooLarge}
+use Rattle.mixing.specs.Mix.{showsCamera, mixedAt, mixedRaster, AgreeWhereShown}
 
 -- Two rules that agree at n places from k on have the same values there.
 values-as : (f h : ℕ → ℕ) (k n : ℕ) → ((i : ℕ) → k ≤ i → i < k + n → f i ≡ h i) → valuesFrom f k n ≡ valuesFrom h k n
@@ -43,13 +41,10 @@ module _ (cells camera other : List ℕ) (n : ℕ) where
         (λ i a b. agree-at i (showsCamera (getD cells i 0)) refl (agree i (omega arith))),
   )
 
--- Where no number of the camera is too large.
-pub mixed-below : (cells camera : List ℕ) (n x : ℕ) → n ≤ firstTooLarge camera n → x < n → mixedAt cells camera x < 4096
-mixed-below cells camera n x fine h = go (showsCamera (getD cells x 0))
+-- What is shown over a camera's number of 12 bits has 12 bits.
+pub mixed-few : (cells camera : List ℕ) (x : ℕ) → getD camera x 0 ≤ 4095 → mixedAt cells camera x < 4096
+mixed-few cells camera x few = go (showsCamera (getD cells x 0))
   where
-    few : getD camera x 0 ≤ 4095
-    few = ltb-false _ _ (lowest-fails (tooLarge camera) n 0 x (omega arith) (omega arith))
-
     go : (shown : Bool) → pick shown (getD camera x 0) (bits 11 0 (getD cells x 0)) < 4096
     go true = omega (arith, few)
     go false = omega arith

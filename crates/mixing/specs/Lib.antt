@@ -1,2 +1,3 @@
 pub mod Mix
+pub mod Rules
 pub mod inner

@@ -1,6 +1,6 @@
 -- How a table answers: the first row whose test holds, and what was asked for exactly where none does.
 use Prim.Native.Nat.{ℕ}
-use mathlib.Core.Path.{_≡_, refl, sym, ap}
+use mathlib.Core.Path.{_≡_, refl, sym, _∙_, ap}
 use mathlib.Core.Bool.{Bool, true, false, _&&_, _||_}
 use mathlib.Core.List.{List, [], _∷_, _++_}
 use mathlib.Core.Logic.{inl, inr}
@@ -8,7 +8,7 @@ use native.Mathlib.Omega.{arith}
 use lib.Dec.{eqb}
 use borrow.Author.Tests.{eq-eqb}
 use Rattle.buffers.specs.Pick.{pick}
-use Rattle.buffers.proofs.Tests.{and-join, or-left, or-right, no}
+use Rattle.buffers.proofs.Tests.{and-join, or-left, or-right, or-neither, no}
 use Rattle.refusals.specs.Table.{Why, given, refused, Row, judged, andThen, testOf, Passes, First}
 
 -- what was asked for is never a refusal
@@ -100,6 +100,23 @@ pub first-holds : (rows : List Row) (w : Why) → First rows w → someTest (w .
 first-holds [] w f = absurd f
 first-holds (r ∷ rs) w (inl f) = or-left (someTest (w .number) rs) (and-join (same-number (f .1)) (f .0))
 first-holds (r ∷ rs) w (inr f) = or-right (eqb (r .tells .number) (w .number) && r .when) (first-holds rs w (f .1))
+
+-- some row has the number n
+abbrev pub hasNumber : ℕ → List Row → Bool
+hasNumber n [] = false
+hasNumber n (r ∷ rs) = eqb (r .tells .number) n || hasNumber n rs
+
+-- of two tables one after the other, where the first has no row with a refusal's number it was passed, and the second refuses
+pub first-behind : (rows more : List Row) (w : Why) → hasNumber (w .number) rows ≡ false → First (rows ++ more) w → Passes rows × First more w
+first-behind [] more w e f = (tt, f)
+first-behind (r ∷ rs) more w e (inl f) = absurd (no (sym (or-neither (eqb (r .tells .number) (w .number)) _ e .0) ∙ same-number (f .1)))
+first-behind (r ∷ rs) more w e (inr f) =
+    let p = first-behind rs more w (or-neither (eqb (r .tells .number) (w .number)) _ e .1) (f .1) in
+    ((f .0, p .0), p .1)
+
+pub behind-first : (rows more : List Row) (w : Why) → Passes rows → First more w → First (rows ++ more) w
+behind-first [] more w p f = f
+behind-first (r ∷ rs) more w p f = inr (p .0, behind-first rs more w (p .1) f)
 
 -- a table judged for one thing, told for another
 pub judged-then : {A B : Type 0} (a : A) (b : B) (rows : List Row) → judged rows b ≡ andThen (judged rows a) (λ _. given b)

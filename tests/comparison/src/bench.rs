@@ -9,7 +9,7 @@ use std::collections::BTreeMap;
 const MOST_SHOWN: u64 = 2;
 
 /// For one call: how often it was accepted (0) and refused with each number.
-pub type Row = [u64; 20];
+pub type Row = [u64; 21];
 
 #[derive(Default)]
 pub struct Bench {

@@ -2,7 +2,7 @@
 
 use crate::bench::Bench;
 use crate::random::Random;
-use crate::{files, large, pictures, queues, raw_files, raw_pictures, raw_queues, raw_records};
+use crate::{files, large, mixes, pictures, queues, raw_files, raw_pictures, raw_queues, raw_records};
 use crate::{raw_summaries, registers, sounds, summaries, syncs, texts};
 
 pub struct Family {
@@ -15,7 +15,7 @@ pub struct Family {
 const ONCE: u64 = u64::MAX;
 
 #[rustfmt::skip]
-pub const FAMILIES: [Family; 33] = [
+pub const FAMILIES: [Family; 35] = [
     Family { name: "load", every: 1, round: registers::load_round },
     Family { name: "check", every: 1, round: registers::check_round },
     Family { name: "check_sound", every: 1, round: registers::check_sound_round },
@@ -25,6 +25,7 @@ pub const FAMILIES: [Family; 33] = [
     Family { name: "summaries", every: 1, round: summaries::summaries_round },
     Family { name: "replace", every: 1, round: summaries::replace_round },
     Family { name: "kept", every: 10, round: summaries::kept_round },
+    Family { name: "mix", every: 1, round: mixes::mix_round },
     Family { name: "colour", every: 50, round: pictures::colour_round },
     Family { name: "grey", every: ONCE, round: pictures::every_grey },
     Family { name: "pin", every: ONCE, round: pictures::every_pin },
@@ -43,6 +44,7 @@ pub const FAMILIES: [Family; 33] = [
     Family { name: "raw_record", every: 1, round: raw_records::raw_record_round },
     Family { name: "raw_sound", every: 1, round: raw_records::raw_sound_round },
     Family { name: "raw_picture", every: 1, round: raw_pictures::raw_picture_round },
+    Family { name: "raw_mix", every: 1, round: mixes::raw_mix_round },
     Family { name: "raw_summaries", every: 1, round: raw_summaries::raw_summaries_round },
     Family { name: "raw_kept", every: 10, round: raw_summaries::raw_kept_round },
     Family { name: "raw_file", every: 1, round: raw_files::raw_file_round },

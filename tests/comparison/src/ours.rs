@@ -1,5 +1,6 @@
 //! What the second program expects, in the types of the library's Rust wrapper, name by name.
 
+use second::colour::Shown;
 use second::plate::Trailer;
 use second::queue::Queue;
 use second::queue_calls::Reply;
@@ -8,7 +9,7 @@ use second::refusal::Refusal;
 use second::setting::Setting;
 use second::summaries::ENTRY;
 use vombelishi::plate::Places;
-use vombelishi::Entry;
+use vombelishi::{Apart, Entry};
 
 pub fn record(record: &Record) -> vombelishi::Record {
     vombelishi::Record { values: record.values, written: record.written.map(u8::from) }
@@ -16,6 +17,10 @@ pub fn record(record: &Record) -> vombelishi::Record {
 
 pub fn refusal(Refusal { number, detail }: Refusal) -> vombelishi::Refusal {
     vombelishi::Refusal { number, detail }
+}
+
+pub fn apart(Shown { colour, supremacy }: Shown) -> Apart {
+    Apart { colour, supremacy }
 }
 
 #[rustfmt::skip] // in the paper's order

@@ -138,7 +138,7 @@ pub fn colour_round(bench: &mut Bench, random: &mut Random) {
         for pixel in 0..=((1u32 << depth) - 1) as u8 {
             let mut judged = Judged::default();
             let expected = colour::display(&record, depth.into(), pixel.into());
-            judged.same("colour", &expected, &given.colour(depth, pixel));
+            judged.same("colour", &ours::apart(expected), &given.colour(depth, pixel));
             bench.count("colour", judged, || {
                 format!("record {}\ndepth {depth}\npixel {pixel}", show::record(&record))
             });

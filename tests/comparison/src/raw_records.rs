@@ -113,17 +113,20 @@ fn raw_colour(bench: &mut Bench, random: &mut Random, record: &Record) {
     let mut given = Given::new(random, record);
     let (depth, pixel) = (random.pick(&[1, 2, 4, 8, 8, 0, 3, 16, 255]), random.between(0, 255));
     let mut shown = Slice::one(random, "colour", 0xA5A5);
+    let mut supremacy = Slice::one(random, "supremacy", 0xA5);
     let expected = given.record().map(|record| match depth {
         8 => colour::display(&record, 8, pixel),
         _ => colour::display(&record, 4, pixel % 16),
     });
     if let Ok(right) = expected {
-        shown.should_hold(&[right]);
+        shown.should_hold(&[right.colour]);
+        supremacy.should_hold(&[right.supremacy.into()]);
     }
     let Given { values, written } = &mut given;
     let (v, w) = ((values.pointer(), values.len()), (written.pointer(), written.len()));
-    let told = unsafe { vom_colour(v.0, v.1, w.0, w.1, depth as u8, pixel as u8, shown.pointer()) };
-    judge(bench, "vom_colour", &expected, told, &[&given, &shown], &format!("depth {depth}\npixel {pixel}"));
+    let places = (shown.pointer(), supremacy.pointer());
+    let told = unsafe { vom_colour(v.0, v.1, w.0, w.1, depth as u8, pixel as u8, places.0, places.1) };
+    judge(bench, "vom_colour", &expected, told, &[&given, &shown, &supremacy], &format!("depth {depth}\npixel {pixel}"));
 }
 
 fn raw_sync_ask(bench: &mut Bench, random: &mut Random) {

@@ -5,7 +5,7 @@ use crate::bench::{Bench, Row};
 
 /// The refusals that each call can give, from the paper's orders. The C calls themselves, from `vom_load` on, are also
 /// given records, and memory for every answer, that are too short.
-const CAN_REFUSE: [(&str, &[usize]); 36] = [
+const CAN_REFUSE: [(&str, &[usize]); 38] = [
     ("load", &[1, 2]),
     ("load_word", &[2]),
     ("check", &[3, 4, 5, 6, 7, 8, 9, 19]),
@@ -16,6 +16,7 @@ const CAN_REFUSE: [(&str, &[usize]); 36] = [
     ("marks", &[3, 4, 5, 6, 7, 8, 9, 11, 19]),
     ("summaries", &[3, 4, 5, 6, 7, 8, 9, 11, 13, 19]),
     ("replace", &[3, 4, 5, 6, 7, 8, 9, 11, 13, 18, 19]),
+    ("mix", &[3, 4, 5, 6, 7, 8, 9, 13, 19, 20]),
     ("sound", &[3, 10, 13]),
     ("copy", &[13, 14]),
     ("write", &[13, 15]),
@@ -32,6 +33,7 @@ const CAN_REFUSE: [(&str, &[usize]); 36] = [
     ("vom_marks", &[3, 4, 5, 6, 7, 8, 9, 11, 13, 19]),
     ("vom_summaries", &[3, 4, 5, 6, 7, 8, 9, 11, 13, 19]),
     ("vom_replace", &[3, 4, 5, 6, 7, 8, 9, 11, 13, 18, 19]),
+    ("vom_mix", &[3, 4, 5, 6, 7, 8, 9, 13, 19, 20]),
     ("vom_colour", &[13]),
     ("vom_sound", &[3, 10, 13]),
     ("vom_sound_pair", &[10, 13]),
@@ -62,7 +64,7 @@ const ALWAYS_ANSWERED: [&str; 13] = [
 
 pub fn print(bench: &Bench) {
     println!("inputs compared, by call: accepted, then refused by number");
-    println!("{:<24}{:>9}{}", "call", "accepted", (1..20).map(|n| format!("{n:>7}")).collect::<String>());
+    println!("{:<24}{:>9}{}", "call", "accepted", (1..21).map(|n| format!("{n:>7}")).collect::<String>());
     for (call, row) in &bench.calls {
         print_row(call, row);
     }
@@ -125,7 +127,7 @@ pub fn never_met(bench: &Bench) -> Vec<String> {
     }
     missing.extend(details_never_met(bench));
     let all = totals(bench);
-    missing.extend((1..20).filter(|&n| all[n] == 0).map(|n| format!("refusal {n}")));
+    missing.extend((1..21).filter(|&n| all[n] == 0).map(|n| format!("refusal {n}")));
     missing.extend(bench.sights.iter().filter(|(_, n)| **n == 0).map(|(s, _)| s.to_string()));
     for ((call, slice), shapes) in &bench.shapes {
         missing.extend(

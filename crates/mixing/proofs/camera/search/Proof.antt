@@ -1,6 +1,6 @@
 -- Number after number: while none was too large, the first that is stands from place k on.
 use Prim.Native.Nat.{_-_, _≤_}
-use mathlib.Core.Path.{_≡_, refl}
+use mathlib.Core.Path.{_≡_}
 use native.Mathlib.Omega.{arith}
 use native.Mathlib.Nat.{sub-zero}
 use borrow.Author.Needs.{needs}
@@ -28,7 +28,8 @@ shared-slice-read-if1 c = search needs
 returns : tie.Need-returns Inv-loop μ-loop
 returns c =
     let loop = c .before .before .before in
-    found (loop .before .args .camera .now) (loop .before .args .n) (loop .loop .k) (loop .loop .inv .1) (c .before .before .loop-test .taken) (c .if1 .taken)
+    let s = loop .before .args in
+    found (s .camera .now) (s .n) (loop .loop .k) (loop .loop .inv .1) (c .before .before .loop-test .taken) (c .if1 .taken)
 
 add-k : tie.Need-add-k Inv-loop μ-loop
 add-k c = search needs
@@ -39,7 +40,8 @@ loop-less c = search needs
 loop-again : tie.Need-loop-again Inv-loop μ-loop
 loop-again c =
     let loop = c .before .before .before in
-    (omega arith, passed-over (loop .before .args .camera .now) (loop .before .args .n) (loop .loop .k) (loop .loop .inv .1) (c .before .before .loop-test .taken) (c .if1 .left))
+    let s = loop .before .args in
+    (omega arith, passed-over (s .camera .now) (s .n) (loop .loop .k) (loop .loop .inv .1) (c .before .before .loop-test .taken) (c .if1 .left))
 
 returns-2 : tie.Need-returns-2 Inv-loop μ-loop
 returns-2 c =

@@ -1,5 +1,4 @@
 -- The test is the rule's, and each branch shows what the rule says.
-use mathlib.Core.Path.{sym, ap, _∙_}
 use borrow.Author.Needs.{needs}
 use Rattle.mixing.proofs.lay.shown_over.Statement.{statement}
 use Rattle.mixing.proofs.lay.shown_over.Tie as tie
