@@ -27,7 +27,7 @@ pub fn overlay(random: &mut Random) -> Overlay {
     let needed = setting::check(&record).map_or(40, |s| s.n as usize);
     let (cells, camera) = (list_length(random, needed), list_length(random, needed));
     let cells = (0..cells).map(|_| cell(random)).collect();
-    let mut camera: Vec<u16> = (0..camera).map(|_| random.pick(&[0, 0xFFF, 0x5A5, random_colour(random)])).collect();
+    let mut camera: Vec<u16> = (0..camera).map(|_| colour(random)).collect();
     for _ in 0..random.pick(&[0, 0, 0, 1, 1, 2, 3]) {
         spoil(random, &mut camera, needed);
     }
@@ -42,8 +42,10 @@ fn list_length(random: &mut Random, needed: usize) -> usize {
     needed + random.pick(&[0, 0, 1, 7])
 }
 
-fn random_colour(random: &mut Random) -> u16 {
-    random.between(0, 0xFFF) as u16
+/// Any 12 bits, the least and the greatest often.
+fn colour(random: &mut Random) -> u16 {
+    let any = random.between(0, 0xFFF) as u16;
+    random.pick(&[0, 0xFFF, any, any])
 }
 
 /// Any code, with supremacy in every second cell.

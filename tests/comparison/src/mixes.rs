@@ -15,9 +15,9 @@ use second::{mixing, raster, setting};
 use vombelishi::calls::vom_mix;
 
 pub fn mix_round(bench: &mut Bench, random: &mut Random) {
-    let overlay = overlay(random);
-    compare_mix(bench, random, &overlay);
-    compare_mix(bench, random, &painted(random));
+    let (any, painted) = (overlay(random), painted(random));
+    compare_mix(bench, random, &any);
+    compare_mix(bench, random, &painted);
 }
 
 /// A raster that is painted, over a right camera.
