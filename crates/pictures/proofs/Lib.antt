@@ -1,2 +1,4 @@
 pub mod Stored
+pub mod Judged
+pub mod ReadBack
 pub mod Unique

@@ -1,1 +1,2 @@
 pub mod Colours
+pub mod Read

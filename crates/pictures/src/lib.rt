@@ -1,4 +1,6 @@
-// A picture's bytes: red, green and blue of each cell, each 4-bit gun times 17.
+// A picture's bytes: red, green and blue of each cell, each 4-bit gun times 17; and such bytes read back.
+pub mod read;
+
 use colours::apart::Apart;
 ghost use mathlib.Core.Path.{_≡_};
 ghost use Prim.Native.Nat.{_+_, _*_, _≤_};
