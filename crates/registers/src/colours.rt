@@ -1,4 +1,4 @@
-// The palettes, as the picture reads them: 13-bit colours.
+// What the palettes hold, as the picture reads it: 13 bits each, a colour and its supremacy, which `colours` tells apart.
 use crate::record::Registers;
 ghost use mathlib.Core.Path.{_≡_};
 ghost use Rattle.registers.specs.Colours.{paletteOf, borderOf, cursorOf};
