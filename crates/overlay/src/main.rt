@@ -66,6 +66,15 @@ fn show_rasters(g: Registers, video: &[u32], cursor: &[u32], camera: Camera)
     }
 }
 
+// Nothing is written before the camera picture is found right.
+fn show_over(g: Registers, video: &[u32], cursor: &[u32], camera: Camera)
+    requires { ⌜ camera .n ≤ 2048 ⌝ }
+{
+    if camera.is_right() && show_head(g, video, cursor) {
+        show_rasters(g, video, cursor, camera);
+    }
+}
+
 // A plate that is refused has one line, which says why.
 fn say_refused(why: Refusal) {
     let mut text = [0u8; 64];
@@ -73,7 +82,7 @@ fn say_refused(why: Refusal) {
     io::write_all(STDERR_FILENO, &text[..n]);
 }
 
-// The plate is judged before the camera picture is opened, and that before anything is written.
+// The plate is judged before the camera picture is opened.
 fn show_mixed(g: Registers, video: &[u32], cursor: &[u32]) {
     match judge(g, video, cursor) {
         Checked::Refused(why) => say_refused(why),
@@ -83,8 +92,8 @@ fn show_mixed(g: Registers, video: &[u32], cursor: &[u32]) {
                 n: s.n.0,
                 v: s.v.0,
             };
-            if camera.file >= 0 && camera.is_right() && show_head(g, video, cursor) {
-                show_rasters(g, video, cursor, camera);
+            if camera.file >= 0 {
+                show_over(g, video, cursor, camera);
             }
         }
     }

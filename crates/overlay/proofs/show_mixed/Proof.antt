@@ -19,19 +19,9 @@ enum-known-s c = search needs
 opened-requires : tie.Need-opened-requires
 opened-requires c κs = search needs
 
-is-right-requires : tie.Need-is-right-requires
-is-right-requires c κs =
+show-over-requires : tie.Need-show-over-requires
+show-over-requires c κs =
     let s = c .before .before .before .before .before in
-    let judged = s .before .before in
-    let args = judged .before .before .before .args in
-    given-width (args .g) (args .video .now) (args .cursor .now) (judged .judge .result) _ (judged .judge .ensures) (s .s .given .1)
-
-show-head-requires : tie.Need-show-head-requires
-show-head-requires c κs = search needs
-
-show-rasters-requires : tie.Need-show-rasters-requires
-show-rasters-requires c κs =
-    let s = c .before .before .before .before .before .before .before .before .before in
     let judged = s .before .before in
     let args = judged .before .before .before .args in
     given-width (args .g) (args .video .now) (args .cursor .now) (judged .judge .result) _ (judged .judge .ensures) (s .s .given .1)
@@ -54,9 +44,7 @@ show-mixed-spec =
     say-refused-requires
     enum-known-s
     opened-requires
-    is-right-requires
-    show-head-requires
-    show-rasters-requires
+    show-over-requires
     returns
     returns-2
     returns-3)

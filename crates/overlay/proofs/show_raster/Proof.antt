@@ -1,6 +1,5 @@
 -- The raster's colours lie within the memory that they were put into.
 use mathlib.Core.Path.{sym}
-use native.Mathlib.Omega.{arith}
 use lib.Seq.{length-take-le}
 use borrow.Author.Needs.{needs}
 use Rattle.overlay.proofs.show_raster.Statement.{statement}

@@ -1,5 +1,4 @@
 -- Each turn takes a byte more, of so many that no run comes to their end.
-use native.Mathlib.Omega.{arith}
 use borrow.Author.Needs.{needs}
 use Rattle.overlay.proofs.camera.Camera.head_right.Statement.{statement}
 use Rattle.overlay.proofs.camera.Camera.head_right.Tie as tie

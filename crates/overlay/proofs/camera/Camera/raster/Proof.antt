@@ -1,6 +1,5 @@
 -- A raster's bytes are at most 6,144.
 use mathlib.Core.Path.{sym}
-use native.Mathlib.Omega.{arith}
 use lib.Seq.{length-take-le}
 use borrow.Author.Needs.{needs}
 use Rattle.overlay.proofs.camera.Camera.raster.Statement.{statement}
