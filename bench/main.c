@@ -70,7 +70,7 @@ static void race(work *const *runs, double *best, int count, int rounds) {
 static void row(const char *name, work *const *runs, int count, int rounds) {
     double best[MOST_RUNS];
     race(runs, best, count, rounds);
-    printf("%-26s %9.1f", name, best[0] * 1e6);
+    printf("%-26s %9.*f", name, best[0] < 1e-6 ? 3 : 1, best[0] * 1e6);
     for (int i = 1; i < count; i++)
         if (runs[i]) printf(" %9.2f", best[i] / best[0]);
         else printf(" %9s", "-");
