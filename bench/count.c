@@ -11,7 +11,8 @@ static const struct {
     {"mix", ours_mix}, {"sound", ours_sound}, {"copy", ours_copy}, {"write", ours_write}, {"text", ours_text}, {"queue", ours_queue},
     {"frame-lines", by_lines_clang}, {"frame-stretches", tuned_clang}, {"frame-cells", per_cell_clang},
     {"marks-cells", count_cells_clang}, {"summaries-cells", entry_cells_clang}, {"replace-cells", replace_cells_clang},
-    {"mix-loop", loop_mix_clang}, {"mix-unjudged", unjudged_mix_clang}, {"sound-loop", loop_sound_clang}, {"copy-loop", loop_copy_clang}, {"write-loop", loop_put_clang}, {"queue-ring", ring_queue_clang},
+    {"mix-loop", loop_mix_clang}, {"mix-unjudged", unjudged_mix_clang}, {"sound-loop", loop_sound_clang},
+    {"copy-loop", loop_copy_clang}, {"write-loop", loop_put_clang}, {"queue-ring", ring_queue_clang},
 };
 
 static void make(const char *input, uint32_t depth) {
