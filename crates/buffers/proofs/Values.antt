@@ -10,7 +10,7 @@ use Rattle.buffers.specs.Painted.{painted}
 use Rattle.buffers.specs.Values.{valuesFrom}
 use Rattle.buffers.proofs.Paints.{Paints, paints-of, length-painted}
 
-length-values : (rule : ℕ → ℕ) (k n : ℕ) → length (valuesFrom rule k n) ≡ n
+pub length-values : (rule : ℕ → ℕ) (k n : ℕ) → length (valuesFrom rule k n) ≡ n
 unfolding valuesFrom
 length-values rule k zero = refl
 length-values rule k (suc n) = ap suc (length-values rule (suc k) n)

@@ -10,3 +10,4 @@ pub mod Pictures
 pub mod Unique
 pub mod Waves
 pub mod Spread
+pub mod ReadAgain

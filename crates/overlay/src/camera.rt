@@ -1,8 +1,8 @@
 // The camera picture: a file whose head and rasters are read one after the other, and found right or not.
-use crate::head::Head;
 use libc::SEEK_CUR;
 use libc::SEEK_SET;
 use libc::STDERR_FILENO;
+use pictures::head::Head;
 ghost use Prim.Native.Nat.{_≤_};
 
 // An open file, and the size that its picture must have.
@@ -59,7 +59,7 @@ impl Camera {
     // Whether the file begins with a right head. It is read byte by byte, so that the first raster comes next. Nothing says that a
     // file ends: the turns count down from a number that no run uses up.
     fn head_right(self) -> bool {
-        let mut head = Head::Letter;
+        let mut head = Head::new();
         let mut turns = u64::MAX;
         while turns > 0 && head.is_open() {
             head = self.head_after(head);

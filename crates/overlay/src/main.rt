@@ -1,7 +1,6 @@
 // A plate on standard input and a camera picture, the file that the first argument names; on standard output the plate laid over it, as a
 // binary PPM file. All that matters is proved in the crates below.
 mod camera;
-mod head;
 
 use camera::Camera;
 use camera::opened;

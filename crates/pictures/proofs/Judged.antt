@@ -10,7 +10,8 @@ use lib.ListN.{length, getD, drop, drop-of-length-le}
 use lib.Seq.{drop-cons}
 use Rattle.buffers.specs.Painted.{painted}
 use Rattle.buffers.proofs.Tests.{and-split}
-use Rattle.pictures.specs.Read.{isGun, allGuns, colourReadAt, readRight, readLeaves}
+use Rattle.pictures.specs.Each.{each}
+use Rattle.pictures.specs.Read.{isGun, colourReadAt, readRight, readLeaves}
 
 and-assoc : (a b c : Bool) → a && (b && c) ≡ a && b && c
 and-assoc true b c = refl
@@ -21,17 +22,17 @@ and-all true = refl
 and-all false = refl
 
 module _ (bytes : List ℕ) (k : ℕ) (all : Bool) where
-  pub guns-more : k < length bytes → all && allGuns (drop k bytes) ≡ all && isGun (getD bytes k 0) && allGuns (drop (k + 1) bytes)
-  unfolding allGuns
+  pub guns-more : k < length bytes → all && each isGun (drop k bytes) ≡ all && isGun (getD bytes k 0) && each isGun (drop (k + 1) bytes)
+  unfolding each
   guns-more h = rw (drop-cons bytes k 0 h, add-one) (and-assoc all _ _)
 
-  pub guns-end : length bytes ≤ k → all && allGuns (drop k bytes) ≡ all
-  unfolding allGuns
+  pub guns-end : length bytes ≤ k → all && each isGun (drop k bytes) ≡ all
+  unfolding each
   guns-end h = rw (drop-of-length-le bytes h) (and-all all)
 
 module _ (bytes : List ℕ) where
   pub right-room : (room : ℕ) → readRight bytes room ≡ true → length bytes / 3 ≤ room
-  right-room room right = leb-true _ _ (and-split (allGuns bytes && eqb (length bytes % 3) 0) (leb (length bytes / 3) room) right .1)
+  right-room room right = leb-true _ _ (and-split (each isGun bytes && eqb (length bytes % 3) 0) (leb (length bytes / 3) room) right .1)
 
   pub right-read : (o p : List ℕ) → readRight bytes (length o) ≡ true → p ≡ painted o 0 (length bytes / 3) (colourReadAt bytes)
       → (true ≡ readRight bytes (length o)) × (p ≡ readLeaves bytes o)

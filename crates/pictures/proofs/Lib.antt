@@ -1,4 +1,7 @@
 pub mod Stored
 pub mod Judged
 pub mod ReadBack
+pub mod Digits
+pub mod HeadRead
+pub mod Heads
 pub mod Unique

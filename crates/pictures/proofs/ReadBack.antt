@@ -14,12 +14,13 @@ use Rattle.buffers.proofs.Tests.{and-join}
 use Rattle.colours.specs.Cells.{cellColour}
 use Rattle.colours.specs.Guns.{redGun, greenGun, blueGun}
 use Rattle.pictures.specs.Colours.{red, green, blue, gunsOf}
-use Rattle.pictures.specs.Read.{allGuns, colourRead, colourReadAt, readRight, readLeaves}
+use Rattle.pictures.specs.Each.{each}
+use Rattle.pictures.specs.Read.{isGun, colourRead, colourReadAt, readRight, readLeaves}
 use Rattle.pictures.proofs.Stored.{length-guns}
 
 -- Each byte is 17 times a gun,
-pub guns-all : (cells : List ℕ) → allGuns (gunsOf cells) ≡ true
-unfolding gunsOf allGuns
+pub guns-all : (cells : List ℕ) → each isGun (gunsOf cells) ≡ true
+unfolding gunsOf each
 guns-all [] = refl
 guns-all (x ∷ xs) =
     let r : red (cellColour x) % 17 ≡ 0 = omega arith in

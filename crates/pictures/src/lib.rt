@@ -1,4 +1,5 @@
-// A picture's bytes: red, green and blue of each cell, each 4-bit gun times 17; and such bytes read back.
+// A picture's bytes: red, green and blue of each cell, each 4-bit gun times 17; such bytes read back, and the head before them.
+pub mod head;
 pub mod read;
 
 use colours::apart::Apart;

@@ -3,11 +3,12 @@ ghost use mathlib.Core.Path.{_≡_};
 ghost use Prim.Native.Nat.{_*_, _≤_};
 ghost use lib.ListN.{length};
 ghost use Rattle.buffers.specs.Painted.{painted};
-ghost use Rattle.pictures.specs.Read.{allGuns, colourRead, colourReadAt, readRight, readLeaves};
+ghost use Rattle.pictures.specs.Each.{each};
+ghost use Rattle.pictures.specs.Read.{isGun, colourRead, colourReadAt, readRight, readLeaves};
 
 // Whether each byte is 17 times a gun: nothing ends this loop early, so that the machine takes many at once.
 fn all_guns(bytes: &[u8]) -> bool
-    ensures { λ r. ⌜ r ≡ allGuns (now (bytes .entry)) ⌝ }
+    ensures { λ r. ⌜ r ≡ each isGun (now (bytes .entry)) ⌝ }
 {
     let mut all = true;
     let mut k = 0;

@@ -5,13 +5,14 @@ use mathlib.Core.Path.{_≡_, refl, sym, _∙_}
 use native.Mathlib.Omega.{arith}
 use borrow.Author.Needs.{needs}
 use lib.ListN.{length, drop}
-use Rattle.pictures.specs.Read.{allGuns}
+use Rattle.pictures.specs.Each.{each}
+use Rattle.pictures.specs.Read.{isGun}
 use Rattle.pictures.proofs.Judged.{guns-more, guns-end}
 use Rattle.pictures.proofs.read.all_guns.Statement.{statement}
 use Rattle.pictures.proofs.read.all_guns.Tie as tie
 
 abbrev Inv-loop : tie.InvT-loop
-Inv-loop bytes all₀ k₀ all k = (k ≤ length bytes) × (allGuns bytes ≡ all && allGuns (drop k bytes))
+Inv-loop bytes all₀ k₀ all k = (k ≤ length bytes) × (each isGun bytes ≡ all && each isGun (drop k bytes))
 
 abbrev μ-loop : tie.MeasureT-loop
 μ-loop bytes all₀ k₀ all k = length bytes - k
