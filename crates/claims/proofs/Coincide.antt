@@ -19,7 +19,7 @@ pub use Rattle.stretch.proofs.Unique.{one-find, one-raster-words, one-raster-wo
 pub use Rattle.mixing.proofs.Unique.{one-mix}
 pub use Rattle.sound.proofs.Unique.{one-pair, one-play}
 pub use Rattle.plates.proofs.Unique.{one-read, one-copy-out, one-write}
-pub use Rattle.pictures.proofs.Unique.{one-guns, one-colours, one-head-new, one-head-is-whole, one-head-is-open, one-head-next}
+pub use Rattle.pictures.proofs.Unique.{one-guns, one-colours, one-head-is-whole, one-head-is-open, one-head-next}
 pub use Rattle.waves.proofs.Unique.{one-head, one-samples}
 pub use Rattle.sheets.proofs.Unique.{one-take, one-take-input}
 pub use Rattle.outputs.proofs.Unique.{one-line, one-refused, one-text, one-strip, one-block, one-refusal}

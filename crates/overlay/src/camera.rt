@@ -59,7 +59,7 @@ impl Camera {
     // Whether the file begins with a right head. It is read byte by byte, so that the first raster comes next. Nothing says that a
     // file ends: the turns count down from a number that no run uses up.
     fn head_right(self) -> bool {
-        let mut head = Head::new();
+        let mut head = Head::Empty;
         let mut turns = u64::MAX;
         while turns > 0 && head.is_open() {
             head = self.head_after(head);

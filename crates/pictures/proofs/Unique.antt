@@ -4,8 +4,6 @@ use denote.Ref.{now}
 use Rattle.buffers.proofs.Coincide.{OneAnswer, OneState}
 use Rattle.pictures.proofs.guns.Kinds as guns-kinds
 use Rattle.pictures.proofs.guns.Reads as guns-reads
-use Rattle.pictures.proofs.head.Head.new.Kinds as new-kinds
-use Rattle.pictures.proofs.head.Head.new.Reads as new-reads
 use Rattle.pictures.proofs.head.Head.is_whole.Kinds as is-whole-kinds
 use Rattle.pictures.proofs.head.Head.is_whole.Reads as is-whole-reads
 use Rattle.pictures.proofs.head.Head.is_open.Kinds as is-open-kinds
@@ -20,9 +18,6 @@ one-guns κs a x y s t p q = (p .after ∙ sym (q .after), p .stored ∙ sym (q 
 
 pub one-colours : OneState 2 colours-kinds.ps colours-kinds.r (λ κs s. now (s .1 .0)) colours-reads.Post
 one-colours κs a x y s t p q = (p .0 ∙ sym (q .0), p .1 ∙ sym (q .1))
-
-pub one-head-new : OneAnswer 0 new-kinds.ps new-kinds.r new-reads.Post
-one-head-new κs a x y s t p q = p ∙ sym q
 
 pub one-head-is-whole : OneAnswer 0 is-whole-kinds.ps is-whole-kinds.r is-whole-reads.Post
 one-head-is-whole κs a x y s t p q = p ∙ sym q

@@ -68,13 +68,6 @@ fn number_asked(k: u8, n: u16, v: u16) -> u32
 }
 
 impl Head {
-    // Nothing was read yet.
-    pub fn new() -> Head
-        ensures { λ r. ⌜ r ≡ Head.Empty ⌝ }
-    {
-        Head::Empty
-    }
-
     pub fn is_whole(self) -> bool
         ensures { λ r. ⌜ r ≡ wholeHead self ⌝ }
     {
