@@ -92,7 +92,8 @@ module _ (n v : ℕ) where
       let next = Number k (withDigit m (d - 48)) in
       by-first (Number k m) next d (ds ++ rest) (rw (both .0)) ∙ digits-run k (withDigit m (d - 48)) ds rest (both .1)
 
-  some-digits-run : (k : ℕ) (ds rest : List ℕ) → 1 ≤ length ds → each isDigit ds ≡ true → after (White k) (ds ++ rest) ≡ after (Number k (cappedBehind 0 ds)) rest
+  some-digits-run : (k : ℕ) (ds rest : List ℕ) → 1 ≤ length ds → each isDigit ds ≡ true
+      → after (White k) (ds ++ rest) ≡ after (Number k (cappedBehind 0 ds)) rest
   unfolding each headBehind cappedBehind
   some-digits-run k [] rest some e = absurd (omega (arith, some))
   some-digits-run k (d ∷ ds) rest some e =
