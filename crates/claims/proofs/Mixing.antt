@@ -1,6 +1,6 @@
 -- Mixing, of every run that the call's own promise permits: every place, when it is refused and when not, what it hides of a camera, and what
 -- is seen of a frame's own raster. And that there is a run.
-use Prim.Native.Nat.{ℕ, _<_, _≤_}
+use Prim.Native.Nat.{ℕ, _<_}
 use mathlib.Core.List.{List, []}
 use mathlib.Core.Logic.{_↔_}
 use mathlib.Core.Path.{_≡_, refl, sym, _∙_, ap}
@@ -9,18 +9,18 @@ use lib.ListN.{length, getD, take}
 use Rattle.buffers.specs.Painted.{painted}
 use Rattle.buffers.proofs.Paints.{Paints, paints-of}
 use Rattle.buffers.proofs.Values.{painted-values}
-use Rattle.refusals.specs.Table.{why, Told, given, refused, unlessRefused}
+use Rattle.refusals.specs.Table.{why, given, refused}
 use Rattle.refusals.specs.declared.Answer.the-variants.{Done}
 use Rattle.registers.specs.Setting.{settingOf}
 use Rattle.registers.specs.declared.record.Registers.{Registers}
 use Rattle.cells.specs.Cell.{cell}
-use Rattle.mixing.specs.Mix.{shownOver, mixedAt, mixedRaster, AgreeWhereShown, mixTold, mixLeaves}
+use Rattle.mixing.specs.Mix.{shownOver, mixedAt, mixedRaster, AgreeWhereShown, mixLeaves}
 use Rattle.mixing.specs.Rules.{MixRules, TooLargeAt}
 use Rattle.mixing.proofs.Exactly.{mix-exactly, too-large-exactly}
 use Rattle.mixing.proofs.Hidden.{hidden, mixed-few}
 use Rattle.claims.specs.Calls.{Every, Ran}
 use Rattle.claims.specs.Views as call
-use Rattle.claims.specs.Views.{RasterRun, MixRun}
+use Rattle.claims.specs.Views.{MixRun}
 use Rattle.claims.specs.Mixing.{Mixed, rasterIn, SameRaster, Overlaid}
 use Rattle.claims.proofs.Demands.{each-raster-cell}
 use Rattle.claims.proofs.Runs.{lent}

@@ -4,7 +4,6 @@ use mathlib.Core.Path.{_≡_}
 use mathlib.Core.List.{List}
 use lib.ListN.{length, getD, take}
 use Rattle.registers.specs.Setting.{settingOf}
-use Rattle.registers.specs.declared.record.Registers.{Registers}
 use Rattle.mixing.specs.Mix.{shownOver}
 use Rattle.claims.specs.Views.{RasterRun, MixRun}
 

@@ -1,5 +1,5 @@
 -- Not refused exactly when every rule holds, and refused with 20 exactly when the first number above 4095 stands at the index.
-use Prim.Native.Nat.{ℕ, _-_, _<_, _≤_}
+use Prim.Native.Nat.{ℕ, _<_, _≤_}
 use mathlib.Core.Bool.{false}
 use mathlib.Core.List.{List}
 use mathlib.Core.Logic.{_↔_, inl, inr}

@@ -2,8 +2,6 @@
 use borrow.Author.Tests.{eq-eqb, ne-eqb}
 use Rattle.pictures.proofs.head.number_asked.Statement.{statement}
 use Rattle.pictures.proofs.head.number_asked.Tie as tie
-use Rattle.pictures.proofs.head.number_asked.Reads as reads
-use Rattle.pictures.proofs.head.number_asked.Lts as lts
 
 returns : tie.Need-returns
 returns c = rw (eq-eqb (c .before .args .k) 0 (c .if1 .taken))

@@ -3,8 +3,6 @@ use borrow.Author.Tests.{lt-ltb, le-ltb}
 use borrow.Author.Needs.{needs}
 use Rattle.pictures.proofs.head.with_digit.Statement.{statement}
 use Rattle.pictures.proofs.head.with_digit.Tie as tie
-use Rattle.pictures.proofs.head.with_digit.Reads as reads
-use Rattle.pictures.proofs.head.with_digit.Lts as lts
 
 returns : tie.Need-returns
 returns c = rw (lt-ltb 65535 (c .before .args .number) (c .if1 .taken))

@@ -3,10 +3,6 @@ use borrow.Author.Tests.{eq-eqb, ne-eqb}
 use borrow.Author.Needs.{needs}
 use Rattle.pictures.proofs.head.Head.before.Statement.{statement}
 use Rattle.pictures.proofs.head.Head.before.Tie as tie
-use Rattle.pictures.proofs.head.Head.before.Reads as reads
-use Rattle.pictures.proofs.head.Head.before.Lts as lts
-use Rattle.pictures.proofs.head.Head.only_if.Reads as only-if-reads
-use Rattle.pictures.proofs.head.is_white.Reads as is-white-reads
 
 returns : tie.Need-returns
 returns c = rw (eq-eqb (c .before .args .byte) 35 (c .if1 .taken))

@@ -3,11 +3,6 @@ use borrow.Author.Tests.{lt-ltb, le-ltb}
 use borrow.Author.Needs.{needs}
 use Rattle.pictures.proofs.head.Head.behind.Statement.{statement}
 use Rattle.pictures.proofs.head.Head.behind.Tie as tie
-use Rattle.pictures.proofs.head.Head.behind.Reads as reads
-use Rattle.pictures.proofs.head.Head.behind.Lts as lts
-use Rattle.pictures.proofs.head.Head.before.Reads as before-reads
-use Rattle.pictures.proofs.head.Head.only_if.Reads as only-if-reads
-use Rattle.pictures.proofs.head.is_white.Reads as is-white-reads
 
 add-before : tie.Need-add-before
 add-before c = search needs

@@ -2,10 +2,6 @@
 use borrow.Author.Needs.{needs}
 use Rattle.pictures.proofs.head.Head.digits.Statement.{statement}
 use Rattle.pictures.proofs.head.Head.digits.Tie as tie
-use Rattle.pictures.proofs.head.Head.digits.Reads as reads
-use Rattle.pictures.proofs.head.Head.digits.Lts as lts
-use Rattle.pictures.proofs.head.digit.Reads as digit-reads
-use Rattle.pictures.proofs.head.with_digit.Reads as with-digit-reads
 
 digit-requires : tie.Need-digit-requires
 digit-requires c κs = search needs

@@ -4,14 +4,6 @@ use borrow.Author.Tests.{eq-eqb, ne-eqb}
 use borrow.Author.Needs.{needs}
 use Rattle.pictures.proofs.head.Head.next.Statement.{statement}
 use Rattle.pictures.proofs.head.Head.next.Tie as tie
-use Rattle.pictures.proofs.head.Head.next.Reads as reads
-use Rattle.pictures.proofs.head.Head.next.Lts as lts
-use Rattle.pictures.proofs.head.Head.before.Reads as before-reads
-use Rattle.pictures.proofs.head.Head.behind.Reads as behind-reads
-use Rattle.pictures.proofs.head.Head.digits.Reads as digits-reads
-use Rattle.pictures.proofs.head.Head.only_if.Reads as only-if-reads
-use Rattle.pictures.proofs.head.is_digit.Reads as is-digit-reads
-use Rattle.pictures.proofs.head.number_asked.Reads as number-asked-reads
 
 enum-told : tie.Need-enum-told
 enum-told c = search needs
