@@ -67,22 +67,27 @@ module _ (n v : ℕ) where
       by-first h (Comment k) 35 (text ++ (10 ∷ []) ++ rest) (o .by-comment) ∙ ap (after (Comment k)) (append-assoc text (10 ∷ []) rest)
       ∙ comment-run k text rest e
 
+  -- The first of some pieces,
+  first-run : (h : Head) (k : ℕ) (p : Piece) (ps : List Piece) (rest : List ℕ) → Opens h k → rightPiece p ≡ true
+      → after h (spelled (p ∷ ps) ++ rest) ≡ after (White k) (spelled ps ++ rest)
+  unfolding spelled
+  first-run h k p ps rest o e = rw (append-assoc (spelledPiece p) (spelled ps) rest) (piece-run h k p (spelled ps ++ rest) o e)
+
+  -- any number of them behind white, and some behind what takes white next.
   white-run : (k : ℕ) (ps : List Piece) (rest : List ℕ) → each rightPiece ps ≡ true → after (White k) (spelled ps ++ rest) ≡ after (White k) rest
   unfolding each spelled
-  white-run k [] rest h = refl
-  white-run k (p ∷ ps) rest h =
-      let both = and-split (rightPiece p) (each rightPiece ps) h in
-      rw (append-assoc (spelledPiece p) (spelled ps) rest)
-      (piece-run (White k) k p (spelled ps ++ rest) (white-opens k) (both .0) ∙ white-run k ps rest (both .1))
+  white-run k [] rest e = refl
+  white-run k (p ∷ ps) rest e =
+      let both = and-split (rightPiece p) (each rightPiece ps) e in
+      first-run (White k) k p ps rest (white-opens k) (both .0) ∙ white-run k ps rest (both .1)
 
   some-white-run : (h : Head) (k : ℕ) (ps : List Piece) (rest : List ℕ) → Opens h k → 1 ≤ length ps → each rightPiece ps ≡ true
       → after h (spelled ps ++ rest) ≡ after (White k) rest
-  unfolding each spelled
+  unfolding each
   some-white-run h k [] rest o some e = absurd (omega (arith, some))
   some-white-run h k (p ∷ ps) rest o some e =
       let both = and-split (rightPiece p) (each rightPiece ps) e in
-      rw (append-assoc (spelledPiece p) (spelled ps) rest)
-      (piece-run h k p (spelled ps ++ rest) o (both .0) ∙ white-run k ps rest (both .1))
+      first-run h k p ps rest o (both .0) ∙ white-run k ps rest (both .1)
 
   digits-run : (k m : ℕ) (ds rest : List ℕ) → each isDigit ds ≡ true → after (Number k m) (ds ++ rest) ≡ after (Number k (cappedBehind m ds)) rest
   unfolding each headBehind cappedBehind
