@@ -6,6 +6,8 @@ pub mod Missing
 pub mod Exactly
 pub mod Accepted
 pub mod Told
+pub mod Halves
+pub mod Accepting
 pub mod Unique
 pub mod Words
 pub mod Heard

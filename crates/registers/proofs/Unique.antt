@@ -2,6 +2,7 @@
 use mathlib.Core.Path.{_≡_, sym, _∙_}
 use Rattle.buffers.proofs.Coincide.{OneAnswer}
 use Rattle.registers.specs.declared.record.Loaded.{Loaded}
+use Rattle.registers.specs.declared.accept.Verdict.{Verdict}
 use Rattle.refusals.proofs.Told.{same-answer}
 use Rattle.registers.proofs.Told.{same-checked}
 use Rattle.registers.proofs.units.Pairs.pixels.Kinds as pixels-kinds
@@ -54,15 +55,18 @@ use Rattle.registers.proofs.record.Registers.sound_frequency.Kinds as s
 use Rattle.registers.proofs.record.Registers.sound_frequency.Reads as sound-frequency-reads
 use Rattle.registers.proofs.record.Registers.load_word.Kinds as load-word-kinds
 use Rattle.registers.proofs.record.Registers.load_word.Reads as load-word-reads
-use Rattle.registers.proofs.record.Registers.load.Kinds as load-kinds
-use Rattle.registers.proofs.record.Registers.load.Reads as load-reads
-use Rattle.registers.proofs.record.Registers.check.Kinds as check-kinds
-use Rattle.registers.proofs.record.Registers.check.Reads as check-reads
+use Rattle.registers.proofs.record.Registers.load_and_check.Kinds as load-and-check-kinds
+use Rattle.registers.proofs.record.Registers.load_and_check.Reads as load-and-check-reads
+use Rattle.registers.proofs.record.Registers.load_and_check_sound.Kinds as load-and-check-sound-kinds
+use Rattle.registers.proofs.record.Registers.load_and_check_sound.Reads as load-and-check-sound-reads
 use Rattle.registers.proofs.record.Registers.check_sound.Kinds as check-sound-kinds
 use Rattle.registers.proofs.record.Registers.check_sound.Reads as check-sound-reads
 
 same-loaded : (x y : Loaded) → x .answer ≡ y .answer → x .registers ≡ y .registers → x ≡ y
 same-loaded x y a r = λ i. record { registers = r i; answer = a i }
+
+same-verdict : (x y : Verdict) → x .checked ≡ y .checked → x .registers ≡ y .registers → x ≡ y
+same-verdict x y c r = λ i. record { registers = r i; checked = c i }
 
 pub one-pixels : OneAnswer 0 pixels-kinds.ps pixels-kinds.r pixels-reads.Post
 one-pixels κs a x y s t p q = p ∙ sym q
@@ -139,11 +143,11 @@ one-sound-frequency κs a x y s t p q = p ∙ sym q
 pub one-load-word : OneAnswer 0 load-word-kinds.ps load-word-kinds.r load-word-reads.Post
 one-load-word κs a x y s t p q = same-loaded x y (same-answer (x .answer) (y .answer) (p .0 ∙ sym (q .0))) (p .1 ∙ sym (q .1))
 
-pub one-load : OneAnswer 1 load-kinds.ps load-kinds.r load-reads.Post
-one-load κs a x y s t p q = same-loaded x y (same-answer (x .answer) (y .answer) (p .0 ∙ sym (q .0))) (p .1 ∙ sym (q .1))
+pub one-load-and-check : OneAnswer 1 load-and-check-kinds.ps load-and-check-kinds.r load-and-check-reads.Post
+one-load-and-check κs a x y s t p q = same-verdict x y (same-checked (x .checked) (y .checked) (p .0 ∙ sym (q .0))) (p .1 ∙ sym (q .1))
 
-pub one-check : OneAnswer 0 check-kinds.ps check-kinds.r check-reads.Post
-one-check κs a x y s t p q = same-checked x y (p ∙ sym q)
+pub one-load-and-check-sound : OneAnswer 1 load-and-check-sound-kinds.ps load-and-check-sound-kinds.r load-and-check-sound-reads.Post
+one-load-and-check-sound κs a x y s t p q = same-loaded x y (same-answer (x .answer) (y .answer) (p .0 ∙ sym (q .0))) (p .1 ∙ sym (q .1))
 
 pub one-check-sound : OneAnswer 0 check-sound-kinds.ps check-sound-kinds.r check-sound-reads.Post
 one-check-sound κs a x y s t p q = same-answer x y (p ∙ sym q)

@@ -11,6 +11,7 @@ pub mod Lowest
 pub mod Check
 pub mod Colours
 pub mod Sound
+pub mod Accept
 pub mod Rules
 pub mod Small
 pub mod inner

@@ -1,11 +1,14 @@
--- Every rule of a setting as a plain fact, in the paper's words. A record is accepted exactly when they all hold.
+-- Every rule of a list and of a setting as a plain fact, in the paper's words. A list is accepted exactly when it can be loaded and its record keeps
+-- every rule.
 use Prim.Native.Nat.{ℕ, _*_, _-_, _%_, _<_, _≤_}
 use mathlib.Core.Path.{_≡_}
-use mathlib.Core.Bool.{true}
+use mathlib.Core.Bool.{true, false}
+use mathlib.Core.List.{List}
 use mathlib.Core.Logic.{_⊎_}
+use lib.ListN.{length, getD}
 use Rattle.registers.specs.Control.{control, pixelRate, interlaceField, testField}
 use Rattle.registers.specs.Geometry.{subPosition}
-use Rattle.registers.specs.Record.{writtenIn}
+use Rattle.registers.specs.Record.{slotOf, reserved, writtenIn}
 use Rattle.registers.specs.Setting.{settingOf}
 use Rattle.registers.specs.Needed.{needed}
 use Rattle.registers.specs.declared.record.Registers.{Registers}
@@ -36,6 +39,11 @@ pub record Bordered (s : Setting) : Type 0 where
 -- Sync ends within the frame; an on display keeps its rule, else an on border keeps its own.
 abbrev pub Vertical : Setting → Type 0
 Vertical s = (s .vs .0 ≤ s .v .0) × (Displayed s ⊎ ((s .vde .0 ≤ s .vds .0) × ((s .vbe .0 ≤ s .vbs .0) ⊎ Bordered s)))
+
+-- A list that can be loaded: 1, it has at most 1,024 words; 2, none of a reserved address.
+pub record Loadable (words : List ℕ) : Type 0 where
+  pub few : length words ≤ 1024
+  pub named : (k : ℕ) → k < length words → reserved (slotOf (getD words k 0)) ≡ false
 
 pub record EveryRule (g : Registers) : Type 0 where
   -- 3: every needed register is written

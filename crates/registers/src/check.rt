@@ -126,7 +126,7 @@ impl Registers {
     }
 
     // The accepted setting, or the first refusal of 3 to 6, 19, 7 to 9.
-    pub fn check(self) -> Checked
+    pub(crate) fn check(self) -> Checked
         ensures { λ r. ⌜ checkSays r ≡ checkTold self ⌝ }
     {
         let s = self.setting();

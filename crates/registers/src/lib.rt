@@ -1,10 +1,11 @@
 // The register library: words, the record, units, control, geometry, load and check.
+pub mod accept;
 pub mod addresses;
 pub mod check;
 pub mod colours;
 mod control;
 mod geometry;
-pub mod load;
+mod load;
 mod lowest;
 mod needed;
 pub mod record;

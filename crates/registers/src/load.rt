@@ -38,7 +38,7 @@ fn apply(registers: Registers, words: &[u32]) -> Registers
 
 impl Registers {
     // The words applied to this record, or a refusal beside the record as it came.
-    pub fn load(self, words: &[u32]) -> Loaded
+    pub(crate) fn load(self, words: &[u32]) -> Loaded
         ensures { λ r. ⌜
             (answerSays (r .answer) ≡ loadTold (now (words .entry)))
             × (r .registers ≡ unlessRefused (loadTold (now (words .entry))) self (applied self (now (words .entry))))

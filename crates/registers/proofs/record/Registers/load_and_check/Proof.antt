@@ -1,0 +1,64 @@
+-- What the load refuses is never checked, and what the check refuses is handed back as it came.
+use mathlib.Core.Path.{sym, _∙_, ap}
+use Rattle.registers.specs.Check.{checkSays, checkTold}
+use Rattle.registers.specs.Accept.{acceptTold}
+use Rattle.registers.proofs.Accepting.{accept-then, unloaded, loaded}
+use borrow.Author.Needs.{needs}
+use Rattle.registers.proofs.record.Registers.load_and_check.Statement.{statement}
+use Rattle.registers.proofs.record.Registers.load_and_check.Tie as tie
+
+load-requires : tie.Need-load-requires
+load-requires c κs = search needs
+
+enum-known-answer : tie.Need-enum-known-answer
+enum-known-answer c = search needs
+
+enum-told : tie.Need-enum-told
+enum-told c = search needs
+
+check-requires : tie.Need-check-requires
+check-requires c κs = search needs
+
+enum-known-why : tie.Need-enum-known-why
+enum-known-why c = search needs
+
+enum-known-setting : tie.Need-enum-known-setting
+enum-known-setting c = search needs
+
+returns : tie.Need-returns
+returns c =
+    let a = c .before .before .before .before .before .before .args in
+    let load = c .before .before .before .before .load .ensures in
+    unloaded _ _ (acceptTold (a .self) (a .words .now)) checkTold (accept-then _ _) _ _ (load .0) (load .1) _ (c .before .answer .given .1)
+
+returns-2 : tie.Need-returns-2
+returns-2 c =
+    let a = c .before .before .before .before .before .before .before .before .before .args in
+    let load = c .before .before .before .before .before .before .before .load .ensures in
+    let done = c .before .before .before .before .enum-told .given .1 in
+    let check = c .before .before .before .check .ensures in
+    loaded _ _ (acceptTold (a .self) (a .words .now)) checkTold (accept-then _ _) _ _ (load .0) (load .1) done _
+    (sym (ap checkSays (c .before .why .given .1)) ∙ check)
+
+returns-3 : tie.Need-returns-3
+returns-3 c =
+    let a = c .before .before .before .before .before .before .before .before .before .args in
+    let load = c .before .before .before .before .before .before .before .load .ensures in
+    let done = c .before .before .before .before .enum-told .given .1 in
+    let check = c .before .before .before .check .ensures in
+    loaded _ _ (acceptTold (a .self) (a .words .now)) checkTold (accept-then _ _) _ _ (load .0) (load .1) done _
+    (sym (ap checkSays (c .before .setting .given .1)) ∙ check)
+
+pub load-and-check-spec : {M : Type 1} → statement M
+load-and-check-spec =
+    tie.close
+    (tie.spec
+    load-requires
+    enum-known-answer
+    enum-told
+    check-requires
+    enum-known-why
+    enum-known-setting
+    returns
+    returns-2
+    returns-3)

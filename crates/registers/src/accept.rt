@@ -1,0 +1,73 @@
+// Load and check: the record that a list leaves where it is accepted, else the record as it came. No list is loaded without being judged.
+use crate::check::Checked;
+use crate::record::Loaded;
+use crate::record::Registers;
+use refusals::Answer;
+ghost use mathlib.Core.Path.{_≡_};
+ghost use Rattle.refusals.specs.Refusals.{answerSays};
+ghost use Rattle.registers.specs.Accept.{acceptTold, acceptSoundTold, handedBack};
+ghost use Rattle.registers.specs.Check.{checkSays};
+
+// The accepted record beside its setting; where the list is refused, the record as it was given beside the reason.
+pub struct Verdict {
+    pub registers: Registers,
+    pub checked: Checked,
+}
+
+impl Registers {
+    // The words applied to this record, and what they leave checked: 1, 2, then 3 to 6, 19, 7 to 9.
+    pub fn load_and_check(self, words: &[u32]) -> Verdict
+        ensures { λ r. ⌜
+            (checkSays (r .checked) ≡ acceptTold self (now (words .entry)))
+            × (r .registers ≡ handedBack (acceptTold self (now (words .entry))) self (now (words .entry)))
+            ⌝ }
+    {
+        let loaded = self.load(words);
+        let registers = loaded.registers;
+        let answer = loaded.answer;
+        match answer {
+            Answer::Refused(why) => Verdict {
+                registers: self,
+                checked: Checked::Refused(why),
+            },
+            Answer::Done => match registers.check() {
+                Checked::Refused(why) => Verdict {
+                    registers: self,
+                    checked: Checked::Refused(why),
+                },
+                Checked::Accepted(setting) => Verdict {
+                    registers: registers,
+                    checked: Checked::Accepted(setting),
+                },
+            },
+        }
+    }
+
+    // The same for sound alone: 1, 2, then 3, 10.
+    pub fn load_and_check_sound(self, words: &[u32]) -> Loaded
+        ensures { λ r. ⌜
+            (answerSays (r .answer) ≡ acceptSoundTold self (now (words .entry)))
+            × (r .registers ≡ handedBack (acceptSoundTold self (now (words .entry))) self (now (words .entry)))
+            ⌝ }
+    {
+        let loaded = self.load(words);
+        let registers = loaded.registers;
+        let answer = loaded.answer;
+        match answer {
+            Answer::Refused(why) => Loaded {
+                registers: self,
+                answer: Answer::Refused(why),
+            },
+            Answer::Done => match registers.check_sound() {
+                Answer::Refused(why) => Loaded {
+                    registers: self,
+                    answer: Answer::Refused(why),
+                },
+                Answer::Done => Loaded {
+                    registers: registers,
+                    answer: Answer::Done,
+                },
+            },
+        }
+    }
+}
