@@ -18,7 +18,9 @@ pub fn words_wrong(s: Setting, video: &[u32], cursor: &[u32]) -> bool
 pub fn judge(g: Registers, video: &[u32], cursor: &[u32]) -> Checked
     ensures { λ r. ⌜ checkSays r ≡ pictureTold g (now (video .entry)) (now (cursor .entry)) ⌝ }
 {
-    match g.check() {
+    let verdict = g.load_and_check(&[]);
+    let checked = verdict.checked;
+    match checked {
         Checked::Refused(why) => Checked::Refused(why),
         Checked::Accepted(s) => {
             if words_wrong(s, video, cursor) {

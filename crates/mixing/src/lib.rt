@@ -43,7 +43,9 @@ pub fn mix(g: Registers, cells: &[u16], camera: &[u16], out: &mut [u16]) -> Answ
         × (now (out .exit) ≡ mixLeaves g (now (cells .entry)) (now (camera .entry)) (now (out .entry)))
         ⌝ }
 {
-    match g.check() {
+    let verdict = g.load_and_check(&[]);
+    let checked = verdict.checked;
+    match checked {
         Checked::Refused(why) => Answer::Refused(why),
         Checked::Accepted(s) => judged_mix(s.n, cells, camera, out),
     }

@@ -54,7 +54,9 @@ fn judge(s: Setting, video: &[u32], y: Rasters) -> Found
 pub fn find(g: Registers, video: &[u32], y: Rasters) -> Found
     ensures { λ r. ⌜ foundSays r ≡ stretchTold g (now (video .entry)) (y .0) ⌝ }
 {
-    match g.check() {
+    let verdict = g.load_and_check(&[]);
+    let checked = verdict.checked;
+    match checked {
         Checked::Refused(why) => Found::Refused(why),
         Checked::Accepted(s) => judge(s, video, y),
     }
