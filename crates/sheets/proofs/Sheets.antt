@@ -1,35 +1,30 @@
--- What taking a plate apart tells: its tables judged one after another, and what its parts are where none of them refuses.
-use Prim.Native.Nat.{ℕ, _*_, _-_, _<_, _≤_}
+-- What taking a plate apart tells, what its parts are where it is not refused, and where its lists lie then.
+use Prim.Native.Nat.{ℕ, _-_, _<_, _≤_}
 use mathlib.Core.Path.{_≡_, refl, sym, _∙_, ap}
 use mathlib.Core.Bool.{Bool, true, false, not, true≢false}
-use mathlib.Core.List.{List, [], _∷_, _++_}
+use mathlib.Core.List.{List, [], _∷_}
 use native.Mathlib.Omega.{arith}
 use lib.Dec.{ltb}
-use lib.ListN.{length, take, length-take, length-drop}
+use lib.ListN.{length, length-take, length-drop}
 use lib.Seq.{sets, length-sets}
 use borrow.Author.Tests.{lt-ltb, le-ltb, ltb-false}
-use Rattle.buffers.specs.Words.{wordsOf}
-use Rattle.refusals.specs.Table.{Why, why, Told, given, refused, row, judged, andThen, unlessRefused, Passes}
+use Rattle.refusals.specs.Table.{Why, why, Told, given, refused, row, judged, unlessRefused, Passes}
 use Rattle.refusals.specs.Refusals.{refusal, answerSays}
 use Rattle.refusals.specs.declared.Refusal.{Refusal}
-use Rattle.refusals.specs.declared.Answer.{Answer}
 use Rattle.refusals.specs.declared.Answer.the-variants as answer
-use Rattle.refusals.proofs.Tables.{passed, given-passes, and-then-judged}
-use Rattle.registers.specs.Record.{fresh}
-use Rattle.registers.specs.Load.{applied, loadTable, loadTold}
-use Rattle.registers.specs.declared.record.Registers.{Registers}
-use Rattle.plates.specs.Plate.{right, rOf, sectionsOf}
-use Rattle.plates.specs.Read.{readSays, readTold, copied, copyLeaves}
+use Rattle.refusals.proofs.Tables.{passed, given-passes}
+use Rattle.plates.specs.Plate.{right, rOf}
+use Rattle.plates.specs.Read.{readSays, readTold, copyTold, copied}
 use Rattle.plates.specs.declared.Sections.{Sections}
 use Rattle.plates.specs.declared.Reading.{Reading}
 use Rattle.plates.specs.declared.Reading.the-variants as reading
 use Rattle.plates.proofs.Rule.{Ordered}
-use Rattle.plates.proofs.Calls.{Right, right-given, right-ordered, copy-done}
-use Rattle.sheets.specs.Sheet.{part, registerWords, videoList, cursorList, soundList, registersOf, partsOf, noParts, takeTold}
+use Rattle.plates.proofs.Calls.{Right, right-given, right-ordered, copy-refused}
+use Rattle.sheets.specs.Sheet.{part, registerWords, videoList, cursorList, soundList, partsOf, noParts}
 use Rattle.sheets.specs.Input.{mostInput, inputTable, inputTold, inputParts, inputLeaves}
 use Rattle.sheets.specs.declared.Parts.{Parts}
 use Rattle.sheets.specs.declared.Taken.{Taken}
-use Rattle.sheets.proofs.Sections.{length-first, first-words, register-bytes, held-video, held-cursor, held-sound}
+use Rattle.sheets.proofs.Sections.{held-registers, held-video, held-cursor, held-sound}
 
 -- what is told, the parts and the lent words, where a plate is refused and where it is not
 module _ (t a : Told (Unit {0})) (p q : Parts) (words new after : List ℕ) where
@@ -42,45 +37,14 @@ module _ (t a : Told (Unit {0})) (p q : Parts) (words new after : List ℕ) wher
   is-taken e f g h = (f ∙ sym e, g ∙ rw e, h ∙ rw e)
 
 -- the parts, field by field
-parts-eta : (z : Parts) (g : Registers) (v c s e : ℕ) → z .registers ≡ g → z .video ≡ v → z .cursor ≡ c → z .sound ≡ s → z .end ≡ e
-    → z ≡ record { registers = g; video = v; cursor = c; sound = s; end = e }
-parts-eta z g v c s e i j k l m = rw (← i, ← j, ← k, ← l, ← m)
+parts-eta : (z : Parts) (v c s e : ℕ) → z .video ≡ v → z .cursor ≡ c → z .sound ≡ s → z .end ≡ e
+    → z ≡ record { video = v; cursor = c; sound = s; end = e }
+parts-eta z v c s e j k l m = rw (← j, ← k, ← l, ← m)
 
--- the tables, one judged after another
-module _ (file : List ℕ) (places : ℕ) where
-  abbrev room : Told (Unit {0})
-  room = judged (row 13 (ltb places (rOf file)) 0 ∷ []) tt
-
-  pub take-then : takeTold file places ≡ andThen (readTold file) (λ _. andThen (loadTold (registerWords file)) (λ _. room))
-  unfolding takeTold readTold loadTold
-  take-then =
-      sym (ap (λ (t : Told (Unit {0})). andThen (readTold file) (λ _. t))
-      (and-then-judged tt (loadTable (registerWords file)) (λ _. row 13 (ltb places (rOf file)) 0 ∷ []) (λ _. tt))
-      ∙ and-then-judged (sectionsOf file) (row 14 (not (right file)) 0 ∷ [])
-      (λ _. loadTable (registerWords file) ++ (row 13 (ltb places (rOf file)) 0 ∷ [])) (λ _. tt))
-
--- the first words of a file, loaded into a fresh record
-module _ (file : List ℕ) (count : ℕ) (fits : 4 * count ≤ length file) (n : Registers) (new : n ≡ fresh) where
-  abbrev words : List ℕ
-  words = wordsOf (take (4 * count) file)
-
-  pub load-many : 1024 < count → (refused (why 1 0) ≡ loadTold words) × (n ≡ unlessRefused (loadTold words) fresh (applied fresh words))
-  unfolding loadTold
-  load-many h =
-      let many = lt-ltb 1024 (length words) (omega (arith, length-first file count fits)) in
-      (rw many, new ∙ rw many)
-
-  pub load-first : (o stored : List ℕ) (a : Answer) (g : Registers) → stored ≡ sets o 0 words → count ≤ length o
-      → answerSays a ≡ loadTold (part stored 0 count) → g ≡ unlessRefused (loadTold (part stored 0 count)) n (applied n (part stored 0 count))
-      → (answerSays a ≡ loadTold words) × (g ≡ unlessRefused (loadTold words) fresh (applied fresh words))
-  load-first o stored a g e h says left =
-      let w = first-words file count fits o stored h e in
-      (says ∙ ap loadTold w, left ∙ rw (new, w))
-
--- a file that was read
+-- a file that was read, and its words copied out
 module _ (file words : List ℕ) (x : Reading) (e : readSays x ≡ readTold file) where
-  pub take-unread : (why : Refusal) → x ≡ reading.Refused why → takeTold file (length words) ≡ refusal why
-  take-unread why q = take-then file (length words) ∙ rw (← e, q)
+  pub take-unread : (why : Refusal) → x ≡ reading.Refused why → copyTold file (length words) ≡ refusal why
+  take-unread why q = sym (copy-refused file _ words words (sym (ap readSays q) ∙ e) .0)
 
   module _ (p : Sections) (q : x ≡ reading.Plate p) where
     found : Right file p
@@ -89,43 +53,8 @@ module _ (file words : List ℕ) (x : Reading) (e : readSays x ≡ readTold file
     pub in-order : Ordered (length file) (p .r) (p .v) (p .c) (p .s)
     in-order = rw (found .are) (right-ordered file (found .is-right))
 
-    pub copied-out : (new : List ℕ) → p .r ≤ length words → new ≡ copyLeaves file words → new ≡ sets words 0 (copied file)
-    copied-out new h f =
-        let done = copy-done file p (sym (ap readSays q) ∙ e) words (sets words 0 (wordsOf (take (4 * p .r) file))) h refl in
-        f ∙ rw (← done .0)
-
-    -- and whose first words were loaded
-    abbrev first : List ℕ
-    first = wordsOf (take (4 * (p .r - p .v)) file)
-
-    module _ (a : Answer) (g : Registers) (says : answerSays a ≡ loadTold first) (left : g ≡ unlessRefused (loadTold first) fresh (applied fresh first)) where
-      loaded : first ≡ registerWords file
-      loaded = rw (found .are) (register-bytes file (found .is-right))
-
-      told : takeTold file (length words) ≡ andThen (answerSays a) (λ _. room file (length words))
-      told = take-then file (length words) ∙ rw (← e, q, ← loaded, says)
-
-      pub take-unloaded : (why : Refusal) → a ≡ answer.Refused why → takeTold file (length words) ≡ refusal why
-      take-unloaded why d = told ∙ rw d
-
-      same-r : p .r ≡ rOf file
-      same-r = ap (λ (s : Sections). s .r) (found .are)
-
-      module _ (d : a ≡ answer.Done) where
-        pub take-short : length words < p .r → takeTold file (length words) ≡ refused (why 13 0)
-        take-short h = told ∙ rw (d, lt-ltb (length words) (rOf file) (omega (arith, same-r)))
-
-        pub take-given : p .r ≤ length words → takeTold file (length words) ≡ given tt
-        take-given h = told ∙ rw (d, le-ltb (length words) (rOf file) (omega (arith, same-r)))
-
-        registers-are : g ≡ registersOf file
-        unfolding registersOf
-        registers-are = left ∙ rw (← says, d, loaded)
-
-        pub parts-are : (z : Parts) → z .registers ≡ g → z .video ≡ p .r - p .v → z .cursor ≡ p .r - p .c → z .sound ≡ p .r - p .s → z .end ≡ p .r
-            → z ≡ partsOf file
-        parts-are z i j k l m =
-            parts-eta z (registersOf file) (p .r - p .v) (p .r - p .c) (p .r - p .s) (p .r) (i ∙ registers-are) j k l m ∙ rw (found .are)
+    pub parts-are : (z : Parts) → z .video ≡ p .r - p .v → z .cursor ≡ p .r - p .c → z .sound ≡ p .r - p .s → z .end ≡ p .r → z ≡ partsOf file
+    parts-are z j k l m = parts-eta z (p .r - p .v) (p .r - p .c) (p .r - p .s) (p .r) j k l m ∙ rw (found .are)
 
 -- what comes in on standard input: too long, or taken apart with room for all its words
 module _ (file words : List ℕ) where
@@ -134,24 +63,24 @@ module _ (file words : List ℕ) where
   input-large h = rw (lt-ltb mostInput (length file) h)
 
   roomy : length file ≤ mostInput → 16384 ≤ length words → (b : Bool) → right file ≡ b
-      → _≡_ {A = Told (Unit {0})} (judged (row 14 (not b) 0 ∷ loadTable (registerWords file)) tt)
-      (judged (row 14 (not b) 0 ∷ loadTable (registerWords file) ++ (row 13 (ltb (length words) (rOf file)) 0 ∷ [])) tt)
+      → _≡_ {A = Told (Unit {0})} (judged (row 14 (not b) 0 ∷ []) tt)
+      (judged (row 14 (not b) 0 ∷ row 13 (ltb (length words) (rOf file)) 0 ∷ []) tt)
   roomy h k false e = refl
   roomy h k true e =
       let o = right-ordered file e in
       rw (le-ltb (length words) (rOf file) (omega (arith, o .whole)))
 
-  pub input-same : length file ≤ mostInput → 16384 ≤ length words → inputTold file ≡ takeTold file (length words)
-  unfolding inputTold takeTold
+  pub input-same : length file ≤ mostInput → 16384 ≤ length words → inputTold file ≡ copyTold file (length words)
+  unfolding inputTold copyTold
   input-same h k = rw (le-ltb mostInput (length file) h) (roomy h k (right file) refl)
 
 -- the parts of a plate, and its lists where they lie among the words
 pub record Held (file words : List ℕ) (p : Parts) : Type 0 where
-  pub registers : p .registers ≡ registersOf file
   pub video-first : p .video ≤ p .cursor
   pub cursor-first : p .cursor ≤ p .sound
   pub sound-first : p .sound ≤ p .end
   pub inside : p .end ≤ length words
+  pub registers : part words 0 (p .video) ≡ registerWords file
   pub video : part words (p .video) (p .cursor) ≡ videoList file
   pub cursor : part words (p .cursor) (p .sound) ≡ cursorList file
   pub sound : part words (p .sound) (p .end) ≡ soundList file
@@ -160,11 +89,11 @@ held : (file o : List ℕ) → right file ≡ true → rOf file ≤ length o →
 held file o is room =
     let order = right-ordered file is in
     record {
-      registers = refl;
       video-first = omega (arith, order .c-v);
       cursor-first = omega (arith, order .s-c);
       sound-first = omega arith;
       inside = rw length-sets room;
+      registers = held-registers file is o room;
       video = held-video file is o room;
       cursor = held-cursor file is o room;
       sound = held-sound file is o room;

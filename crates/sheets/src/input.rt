@@ -10,7 +10,7 @@ ghost use Rattle.sheets.specs.Input.{inputTold, inputParts, inputLeaves}
 // The most bytes that standard input may have.
 const MOST_INPUT: usize = 65_536;
 
-// A plate taken apart, with room for the words of the longest: 15, 14, 1, 2.
+// A plate taken apart, with room for the words of the longest: 15, 14.
 pub fn take_input(file: &[u8], words: &mut [u32; 16384]) -> Taken
     ensures { λ r. ⌜
         (answerSays (r .answer) ≡ inputTold (now (file .entry)))

@@ -1,27 +1,24 @@
-// A plate file taken apart once: its record, and all its words in memory that the caller lends.
+// A plate file taken apart once: all its words in memory that the caller lends, and where its four lists stand among them.
 pub mod input;
-mod words;
 
 use plates::Reading;
 use refusals::Answer;
 use refusals::Refusal;
-use registers::record::Registers;
-use words::load_registers;
 ghost use mathlib.Core.Path.{_≡_};
 ghost use lib.ListN.{length};
 ghost use Rattle.refusals.specs.Refusals.{answerSays, refusal};
-ghost use Rattle.sheets.specs.Sheet.{noParts, takeTold, takeParts, takeLeaves};
+ghost use Rattle.plates.specs.Read.{copyTold, copyLeaves};
+ghost use Rattle.sheets.specs.Sheet.{noParts, takeParts};
 
-// A plate's record, where its video, cursor and sound words start, and where they end.
+// Where a plate's video, cursor and sound words start among all its words, and where they end. Its register words come first.
 pub struct Parts {
-    pub registers: Registers,
     pub video: usize,
     pub cursor: usize,
     pub sound: usize,
     pub end: usize,
 }
 
-// The parts are a fresh record and zeros where the answer is a refusal.
+// The parts are zeros where the answer is a refusal.
 pub struct Taken {
     pub parts: Parts,
     pub answer: Answer,
@@ -32,7 +29,6 @@ fn not_taken(why: Refusal) -> Taken
 {
     Taken {
         parts: Parts {
-            registers: Registers::new(),
             video: 0,
             cursor: 0,
             sound: 0,
@@ -42,40 +38,27 @@ fn not_taken(why: Refusal) -> Taken
     }
 }
 
-// A plate's register words judged and loaded, then all its words copied out: 14, 1, 2, 13.
+// A plate's words copied out, and where its lists stand among them: 14, 13. No list is judged here.
 pub fn take(file: &[u8], words: &mut [u32]) -> Taken
     ensures { λ r. ⌜
-        (answerSays (r .answer) ≡ takeTold (now (file .entry)) (length (now (words .entry))))
+        (answerSays (r .answer) ≡ copyTold (now (file .entry)) (length (now (words .entry))))
         × (r .parts ≡ takeParts (now (file .entry)) (length (now (words .entry))))
-        × (now (words .exit) ≡ takeLeaves (now (file .entry)) (now (words .entry)))
+        × (now (words .exit) ≡ copyLeaves (now (file .entry)) (now (words .entry)))
         ⌝ }
 {
     match plates::read(file) {
         Reading::Refused(why) => not_taken(why),
-        Reading::Plate(p) => {
-            let video = (p.r - p.v) as usize;
-            let loaded = load_registers(file, video);
-            let g = loaded.registers;
-            let answer = loaded.answer;
-            match answer {
-                Answer::Refused(why) => not_taken(why),
-                Answer::Done => {
-                    if words.len() < p.r as usize {
-                        return not_taken(Refusal::Short);
-                    }
-                    plates::copy_out(file, words);
-                    Taken {
-                        parts: Parts {
-                            registers: g,
-                            video: video,
-                            cursor: (p.r - p.c) as usize,
-                            sound: (p.r - p.s) as usize,
-                            end: p.r as usize,
-                        },
-                        answer: Answer::Done,
-                    }
-                }
-            }
-        }
+        Reading::Plate(p) => match plates::copy_out(file, words) {
+            Answer::Refused(why) => not_taken(why),
+            Answer::Done => Taken {
+                parts: Parts {
+                    video: (p.r - p.v) as usize,
+                    cursor: (p.r - p.c) as usize,
+                    sound: (p.r - p.s) as usize,
+                    end: p.r as usize,
+                },
+                answer: Answer::Done,
+            },
+        },
     }
 }
