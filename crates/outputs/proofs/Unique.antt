@@ -4,8 +4,6 @@ use denote.Ref.{now}
 use Rattle.buffers.proofs.Coincide.{OneState}
 use Rattle.outputs.proofs.blocks.block.Kinds as block-kinds
 use Rattle.outputs.proofs.blocks.block.Reads as block-reads
-use Rattle.outputs.proofs.blocks.refusal.Kinds as refusal-kinds
-use Rattle.outputs.proofs.blocks.refusal.Reads as refusal-reads
 use Rattle.outputs.proofs.strips.strip.Kinds as strip-kinds
 use Rattle.outputs.proofs.strips.strip.Reads as strip-reads
 use Rattle.outputs.proofs.text.line.Kinds as line-kinds
@@ -30,5 +28,3 @@ one-strip κs a x y s t p q = (p .after ∙ sym (q .after), p .stored ∙ sym (q
 pub one-block : OneState 2 block-kinds.ps block-kinds.r (λ κs s. now (s .1 .1 .1 .0)) block-reads.Post
 one-block κs a x y s t p q = (p .after ∙ sym (q .after), p .stored ∙ sym (q .stored))
 
-pub one-refusal : OneState 1 refusal-kinds.ps refusal-kinds.r (λ κs s. now (s .1 .0)) refusal-reads.Post
-one-refusal κs a x y s t p q = (p .after ∙ sym (q .after), p .stored ∙ sym (q .stored))

@@ -13,7 +13,7 @@ use Rattle.buffers.specs.Put.{Put, textIn}
 use Rattle.buffers.proofs.Puts.{text-fits}
 use Rattle.buffers.proofs.Split.{lt-or-le}
 use Rattle.refusals.specs.Table.{Why, Told, given, refused}
-use Rattle.refusals.specs.Refusals.{answerSays, whyOf}
+use Rattle.refusals.specs.Refusals.{answerSays}
 use Rattle.refusals.specs.declared.Refusal.{Refusal}
 use Rattle.refusals.specs.declared.Answer.{Answer}
 use Rattle.refusals.specs.declared.Answer.the-variants as answer
@@ -29,20 +29,11 @@ use Rattle.waves.proofs.Stored.{length-samples, samples-append, samples-none}
 use Rattle.sheets.specs.Sheet.{part, registersOf, soundList}
 use Rattle.sheets.specs.Input.{inputTold}
 use Rattle.sheets.proofs.Sheets.{few-sounds}
-use Rattle.outputs.specs.Text.{refusedLine}
-use Rattle.outputs.specs.Wave.{waveTold, waveBy, waveOf, soundBlock, waveBlock, blockBy, blockAt, firstBlocks, soundRefusal}
-use Rattle.outputs.proofs.Sheets.{wave-refused}
+use Rattle.outputs.specs.Wave.{waveTold, waveBy, waveOf, soundBlock, waveBlock, blockBy, blockAt, firstBlocks}
+use Rattle.outputs.proofs.Sheets.{wave-untaken}
 
 -- a record judged for its sound, and its blocks
 module _ (g : Registers) (x : Answer) (e : answerSays x ≡ soundTold g) where
-  pub line-refused : (why : Refusal) → x ≡ answer.Refused why → soundRefusal g ≡ refusedLine (whyOf why)
-  unfolding soundRefusal
-  line-refused why q = rw (← e, q)
-
-  pub line-none : x ≡ answer.Done → soundRefusal g ≡ []
-  unfolding soundRefusal
-  line-none q = rw (← e, q)
-
   pub block-refused : (words : List ℕ) (k : ℕ) (why : Refusal) → x ≡ answer.Refused why → blockAt g words k ≡ []
   unfolding blockAt
   block-refused words k why q = rw (← e, q)
@@ -171,7 +162,7 @@ module _ (g : Registers) (words : List ℕ) where
 module _ (file : List ℕ) where
   blocks-of : (t : Told (Unit {0})) → inputTold file ≡ t → firstBlocks (registersOf file) (soundList file) (waveTold file) 65 ≡ waveOf file
   unfolding waveOf
-  blocks-of (refused w) e = rw (wave-refused file w e) (no-blocks (registersOf file) (soundList file) w 65)
+  blocks-of (refused w) e = rw (wave-untaken file w e) (no-blocks (registersOf file) (soundList file) w 65)
   blocks-of (given u) e = sound-blocks (registersOf file) (soundList file) (waveTold file) 64 (omega (arith, few-sounds file e))
 
   pub wave-blocks : firstBlocks (registersOf file) (soundList file) (waveTold file) 65 ≡ waveOf file

@@ -1,4 +1,4 @@
--- A plate's sound as a WAV file: its head, then the samples of its sound words, the counter from 0; or a line that refuses.
+-- A plate's sound as a WAV file: its head, then the samples of its sound words, the counter from 0.
 use Prim.Native.Nat.{ℕ, zero, suc, _*_, _-_}
 use mathlib.Core.List.{List, [], _++_}
 use lib.ListN.{length, take, drop}
@@ -6,19 +6,20 @@ use lib.Dec.{eqb}
 use Rattle.buffers.specs.Pick.{pick}
 use Rattle.refusals.specs.Table.{Told, given, refused, Row, judged}
 use Rattle.registers.specs.Stereo.{frequencyOf}
-use Rattle.registers.specs.Sound.{soundTable, soundTold}
+use Rattle.registers.specs.Record.{fresh}
+use Rattle.registers.specs.Sound.{soundTold}
+use Rattle.registers.specs.Accept.{acceptSoundTable}
 use Rattle.registers.specs.declared.record.Registers.{Registers}
 use Rattle.sound.specs.Play.{playedOf}
 use Rattle.sound.specs.Values.{counterAfter}
 use Rattle.waves.specs.Head.{waveHead}
 use Rattle.waves.specs.Samples.{samplesOf}
-use Rattle.sheets.specs.Sheet.{registersOf, soundList}
+use Rattle.sheets.specs.Sheet.{registerWords, registersOf, soundList}
 use Rattle.sheets.specs.Input.{inputTable}
-use Rattle.outputs.specs.Text.{refusedLine}
 
--- 15, 14, 1, 2, then what sound asks of the record: 3, 10. The picture is not judged.
+-- 15, 14, then its register words loaded and judged for sound: 1, 2, 3, 10. The picture is not judged.
 abbrev pub waveTable : List ℕ → List Row
-waveTable file = inputTable file ++ soundTable (registersOf file)
+waveTable file = inputTable file ++ acceptSoundTable fresh (registerWords file)
 
 unfoldable pub waveTold : List ℕ → Told (Unit {0})
 waveTold file = judged (waveTable file) tt
@@ -51,11 +52,3 @@ firstBlocks g words told (suc n) = firstBlocks g words told n ++ blockBy g words
 -- A block of a record and its sound words.
 unfoldable pub blockAt : Registers → List ℕ → ℕ → List ℕ
 blockAt g words k = blockBy g words (soundTold g) k
-
--- The line that refuses a sound; none where it is not refused.
-abbrev pub refusalBy : Told (Unit {0}) → List ℕ
-refusalBy (given u) = []
-refusalBy (refused w) = refusedLine w
-
-unfoldable pub soundRefusal : Registers → List ℕ
-soundRefusal g = refusalBy (soundTold g)

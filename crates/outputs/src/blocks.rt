@@ -1,5 +1,4 @@
 // One block of a sound, as a WAV file has it: its head, then the samples of 256 words a block.
-use crate::words::put_refused;
 use refusals::Answer;
 use registers::record::Registers;
 ghost use mathlib.Core.Path.{_≡_};
@@ -10,7 +9,7 @@ ghost use Rattle.registers.specs.Sound.{soundTold};
 ghost use Rattle.refusals.specs.Table.{given};
 ghost use Rattle.sound.specs.Play.{playedOf};
 ghost use Rattle.waves.specs.Samples.{samplesOf};
-ghost use Rattle.outputs.specs.Wave.{soundBlock, waveBlock, blockAt, soundRefusal};
+ghost use Rattle.outputs.specs.Wave.{soundBlock, waveBlock, blockAt};
 
 // How many words a block has.
 const BLOCK: usize = 256;
@@ -61,15 +60,5 @@ pub fn block(g: Registers, words: &[u32], k: usize, out: &mut [u8; 4096]) -> usi
     match g.check_sound() {
         Answer::Refused(_) => 0,
         Answer::Done => wave_block(out, g, words, k),
-    }
-}
-
-// The line that refuses a record's sound, and its length; no bytes where it is not refused.
-pub fn refusal(g: Registers, out: &mut [u8; 64]) -> usize
-    ensures { λ r. ⌜ Put (now (out .entry)) (now (out .exit)) 0 (soundRefusal g) r ⌝ }
-{
-    match g.check_sound() {
-        Answer::Refused(why) => put_refused(out, why),
-        Answer::Done => 0,
     }
 }

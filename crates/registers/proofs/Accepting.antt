@@ -47,6 +47,13 @@ module _ (g : Registers) (words : List ℕ) (s : Setting) where
   pub both-accepted : loadTold words ≡ given tt → checkTold (applied g words) ≡ given s → acceptTold g words ≡ given s
   both-accepted e h = accept-then g words ∙ rw e h
 
+pub accepted-sound : (g : Registers) (words : List ℕ) → acceptSoundTold g words ≡ given tt → soundTold (applied g words) ≡ given tt
+accepted-sound g words e = go (loadTold words) (sym (accept-sound-then g words) ∙ e)
+  where
+    go : (t : Told (Unit {0})) → andThen t (λ _. soundTold (applied g words)) ≡ given tt → soundTold (applied g words) ≡ given tt
+    go (given u) h = h
+    go (refused w) h = never (sym h)
+
 -- Accepted exactly when the list can be loaded and the record that it leaves keeps every rule.
 pub accepts-exactly : (g : Registers) (words : List ℕ)
     → (acceptTold g words ≡ given (settingOf (applied g words))) ↔ (Loadable words × EveryRule (applied g words))
