@@ -17,7 +17,7 @@ use Rattle.registers.specs.Rules.{Loadable}
 use Rattle.registers.specs.declared.record.Registers.{Registers}
 
 -- all words lead where the first is not reserved and all others lead
-first-leads : (w : ℕ) (ws : List ℕ) → length (w ∷ ws) ≤ leading (w ∷ ws) → (reserved (slotOf w) ≡ false) × (length ws ≤ leading ws)
+pub first-leads : (w : ℕ) (ws : List ℕ) → length (w ∷ ws) ≤ leading (w ∷ ws) → (reserved (slotOf w) ≡ false) × (length ws ≤ leading ws)
 unfolding leading
 first-leads w ws h = go (reserved (slotOf w)) h
   where

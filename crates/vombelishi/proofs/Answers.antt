@@ -33,6 +33,23 @@ module _ {A B : Type 0} (t : Told A) (values : A → List B) (needed : ℕ) (out
   pub listed-done : (a : A) (after : List B) → t ≡ given a → needed ≤ length out → after ≡ sets out 0 (values a) → Listed 0 after
   listed-done a after e h k = let l = le-ltb (length out) needed h in (rw (e, l), rw (e, l) k)
 
+-- A call whose values are a list, and that changes two other memories.
+module _ {A B C D : Type 0} (t : Told A) (values : A → List B) (needed : ℕ) (out : List B) (one one′ : C) (two two′ : D) where
+  abbrev pub Threefold : ℕ → C → D → List B → Type 0
+  Threefold r x y z =
+      (r ≡ answerCode (listed t values needed out)) × (x ≡ unlessRefused (listed t values needed out) one one′)
+      × (y ≡ unlessRefused (listed t values needed out) two two′) × (z ≡ storedBy (listed t values needed out) out)
+
+  pub threefold-refused : (w : Why) (r : ℕ) → t ≡ refused w → Refuses w r → Threefold r one two out
+  threefold-refused w r e k = (rw e k, rw e, rw e, rw e)
+
+  pub threefold-short : (a : A) → t ≡ given a → length out < needed → Threefold short one two out
+  threefold-short a e h = let l = lt-ltb (length out) needed h in (rw (e, l), rw (e, l), rw (e, l), rw (e, l))
+
+  pub threefold-done : (a : A) (x : C) (y : D) (z : List B) → t ≡ given a → needed ≤ length out → x ≡ one′ → y ≡ two′ → z ≡ sets out 0 (values a)
+      → Threefold 0 x y z
+  threefold-done a x y z e h i j k = let l = le-ltb (length out) needed h in (rw (e, l), rw (e, l) i, rw (e, l) j, rw (e, l) k)
+
 -- A call whose value has a cell.
 module _ {A : Type 0} (t : Told A) (cell : A) where
   abbrev pub Celled : ℕ → A → Type 0

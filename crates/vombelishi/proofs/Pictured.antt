@@ -4,17 +4,18 @@ use mathlib.Core.Path.{_≡_, sym, _∙_, ap}
 use mathlib.Core.Bool.{Bool, true, false}
 use mathlib.Core.List.{List, [], _∷_}
 use Rattle.refusals.specs.Table.{Told, given, andThen, row, judged}
-use Rattle.registers.specs.Check.{checkTold}
+use Rattle.registers.specs.Load.{applied}
 use Rattle.registers.specs.declared.record.Registers.{Registers}
 use Rattle.registers.specs.declared.setting.Setting.{Setting}
-use Rattle.refusals.proofs.Tables.{never}
 use Rattle.registers.specs.inner.Accepted.{Accepted}
 use Rattle.registers.proofs.Accepted.{accepted}
+use Rattle.registers.proofs.Accepting.{accepted-both}
 use Rattle.stretch.specs.declared.found.Stretch.{Stretch}
 use Rattle.vombelishi.specs.Code.{answerCode}
 use Rattle.vombelishi.specs.Record.{lacking, recordOf, recordTold, underRecord}
-use Rattle.vombelishi.specs.Settings.{settingTold}
+use Rattle.vombelishi.specs.Load.{acceptedTold}
 use Rattle.vombelishi.proofs.Answers.{short}
+use Rattle.vombelishi.proofs.Loading.{told-accepted}
 use Rattle.vombelishi.proofs.Records.{no-record, a-record}
 
 -- A call that tells and leaves something, by a record.
@@ -33,13 +34,10 @@ module _ (values written cells : List ℕ) (tells : Registers → Told (Unit {0}
       (rw y (k ∙ ap answerCode (t ∙ ap tells q)), rw y (h ∙ ap leaves q))
 
 -- An accepted setting, told through a record.
-pub setting-accepted : (values written : List ℕ) (s : Setting) → settingTold values written ≡ given s → Accepted s
-unfolding settingTold recordTold
-setting-accepted values written s e = accepted (recordOf values written) s (go (lacking values written) e)
-  where
-    go : (b : Bool) → andThen (judged (row 13 b 0 ∷ []) (recordOf values written)) checkTold ≡ given s → checkTold (recordOf values written) ≡ given s
-    go true h = never (sym h)
-    go false h = h
+pub setting-accepted : (values written words : List ℕ) (s : Setting) → acceptedTold values written words ≡ given s → Accepted s
+setting-accepted values written words s e =
+    let g = recordOf values written in
+    accepted (applied g words) s (accepted-both g words s (told-accepted values written words s e) .1)
 
 -- Where words stand, as two numbers.
 abbrev pub placeOf : Stretch → List ℕ

@@ -19,8 +19,10 @@ use Rattle.vombelishi.proofs.levels.vom_grey.Kinds as vom-grey-kinds
 use Rattle.vombelishi.proofs.levels.vom_grey.Reads as vom-grey-reads
 use Rattle.vombelishi.proofs.levels.vom_pin.Kinds as vom-pin-kinds
 use Rattle.vombelishi.proofs.levels.vom_pin.Reads as vom-pin-reads
-use Rattle.vombelishi.proofs.loads.vom_load.Kinds as vom-load-kinds
-use Rattle.vombelishi.proofs.loads.vom_load.Reads as vom-load-reads
+use Rattle.vombelishi.proofs.loads.vom_load_and_check.Kinds as vom-load-and-check-kinds
+use Rattle.vombelishi.proofs.loads.vom_load_and_check.Reads as vom-load-and-check-reads
+use Rattle.vombelishi.proofs.loads.vom_load_and_check_sound.Kinds as vom-load-and-check-sound-kinds
+use Rattle.vombelishi.proofs.loads.vom_load_and_check_sound.Reads as vom-load-and-check-sound-reads
 use Rattle.vombelishi.proofs.loads.vom_load_word.Kinds as vom-load-word-kinds
 use Rattle.vombelishi.proofs.loads.vom_load_word.Reads as vom-load-word-reads
 use Rattle.vombelishi.proofs.pictures.vom_frame.Kinds as vom-frame-kinds
@@ -41,8 +43,6 @@ use Rattle.vombelishi.proofs.rasters.vom_raster_words.Kinds as vom-rast
 use Rattle.vombelishi.proofs.rasters.vom_raster_words.Reads as vom-raster-words-reads
 use Rattle.vombelishi.proofs.rasters.vom_marks.Kinds as vom-marks-kinds
 use Rattle.vombelishi.proofs.rasters.vom_marks.Reads as vom-marks-reads
-use Rattle.vombelishi.proofs.settings.vom_check.Kinds as vom-check-kinds
-use Rattle.vombelishi.proofs.settings.vom_check.Reads as vom-check-reads
 use Rattle.vombelishi.proofs.settings.vom_check_sound.Kinds as vom-check-sound-kinds
 use Rattle.vombelishi.proofs.settings.vom_check_sound.Reads as vom-check-sound-reads
 use Rattle.vombelishi.proofs.sounds.vom_sound.Kinds as vom-sound-kinds
@@ -79,8 +79,14 @@ one-vom-grey κs a x y s t p q = p ∙ sym q
 pub one-vom-pin : OneAnswer 0 vom-pin-kinds.ps vom-pin-kinds.r vom-pin-reads.Post
 one-vom-pin κs a x y s t p q = p ∙ sym q
 
-pub one-vom-load : OneState {A = List ℕ × List ℕ} 3 vom-load-kinds.ps vom-load-kinds.r (λ κs s. (now (s .0), now (s .1 .0))) vom-load-reads.Post
-one-vom-load κs a x y s t p q = (p .0 ∙ sym (q .0), λ i. ((p .1 ∙ sym (q .1)) i, (p .2 ∙ sym (q .2)) i))
+pub one-vom-load-and-check : OneState {A = List ℕ × List ℕ × List ℕ} 4 vom-load-and-check-kinds.ps vom-load-and-check-kinds.r
+    (λ κs s. (now (s .0), now (s .1 .0), now (s .1 .1 .1 .0))) vom-load-and-check-reads.Post
+one-vom-load-and-check κs a x y s t p q =
+    (p .0 ∙ sym (q .0), λ i. ((p .1 ∙ sym (q .1)) i, (p .2 ∙ sym (q .2)) i, (p .3 ∙ sym (q .3)) i))
+
+pub one-vom-load-and-check-sound : OneState {A = List ℕ × List ℕ} 3 vom-load-and-check-sound-kinds.ps vom-load-and-check-sound-kinds.r
+    (λ κs s. (now (s .0), now (s .1 .0))) vom-load-and-check-sound-reads.Post
+one-vom-load-and-check-sound κs a x y s t p q = (p .0 ∙ sym (q .0), λ i. ((p .1 ∙ sym (q .1)) i, (p .2 ∙ sym (q .2)) i))
 
 pub one-vom-load-word : OneState {A = List ℕ × List ℕ} 2 vom-load-word-kinds.ps vom-load-word-kinds.r
     (λ κs s. (now (s .0), now (s .1 .0))) vom-load-word-reads.Post
@@ -104,9 +110,6 @@ one-vom-summaries κs a x y s t p q = (p .0 ∙ sym (q .0), p .1 ∙ sym (q .1))
 pub one-vom-replace : OneState {A = List ℕ × List ℕ} 5 vom-replace-kinds.ps vom-replace-kinds.r
     (λ κs s. (now (s .1 .1 .0), now (s .1 .1 .1 .1 .1 .1 .1 .0))) vom-replace-reads.Post
 one-vom-replace κs a x y s t p q = (p .0 ∙ sym (q .0), λ i. ((p .1 ∙ sym (q .1)) i, (p .2 ∙ sym (q .2)) i))
-
-pub one-vom-check : OneState 3 vom-check-kinds.ps vom-check-kinds.r (λ κs s. now (s .1 .1 .0)) vom-check-reads.Post
-one-vom-check κs a x y s t p q = (p .0 ∙ sym (q .0), p .1 ∙ sym (q .1))
 
 pub one-vom-check-sound : OneAnswer 2 vom-check-sound-kinds.ps vom-check-sound-kinds.r vom-check-sound-reads.Post
 one-vom-check-sound κs a x y s t p q = p ∙ sym q

@@ -1,11 +1,14 @@
--- Loading in C: 13 for what is no record, then 1 and 2. Each word is stored in both lists; no other register is touched.
+-- Loading in C: 13 for what is no record, then the refusals of a list, or of a word. Each word is stored in both lists; no other register is touched.
 use Prim.Native.Nat.{ℕ}
 use mathlib.Core.List.{List, [], _∷_}
 use lib.ListN.{set}
-use Rattle.refusals.specs.Table.{Told, andThen, unlessRefused}
+use Rattle.refusals.specs.Table.{Told, given, andThen, unlessRefused}
 use Rattle.registers.specs.Record.{slotOf, dataOf, wordTold}
-use Rattle.registers.specs.Load.{loadTold}
+use Rattle.registers.specs.Accept.{acceptTold, acceptSoundTold}
+use Rattle.registers.specs.declared.setting.Setting.{Setting}
+use Rattle.vombelishi.specs.Code.{withRoom}
 use Rattle.vombelishi.specs.Record.{recordTold}
+use Rattle.vombelishi.specs.Settings.{numbersOf}
 
 -- The register that a word names holds its data, and its flag is 1.
 abbrev pub valueStored : List ℕ → ℕ → List ℕ
@@ -23,15 +26,29 @@ unfoldable pub flagsStored : List ℕ → List ℕ → List ℕ
 flagsStored written [] = written
 flagsStored written (w ∷ ws) = flagsStored (flagStored written w) ws
 
--- A list of words.
-unfoldable pub loadCall : List ℕ → List ℕ → List ℕ → Told (Unit {0})
-loadCall values written words = andThen (recordTold values written) (λ g. loadTold words)
+-- A list of words loaded and checked: the setting of the record that they leave,
+unfoldable pub acceptedTold : List ℕ → List ℕ → List ℕ → Told Setting
+acceptedTold values written words = andThen (recordTold values written) (λ g. acceptTold g words)
 
-unfoldable pub loadValuesLeaves : List ℕ → List ℕ → List ℕ → List ℕ
-loadValuesLeaves values written words = unlessRefused (loadCall values written words) values (valuesStored values words)
+-- and its 21 numbers, or 13 where there is no room for them.
+unfoldable pub acceptCall : List ℕ → List ℕ → List ℕ → ℕ → Told (List ℕ)
+acceptCall values written words room = withRoom 21 room (andThen (acceptedTold values written words) (λ s. given (numbersOf s)))
 
-unfoldable pub loadWrittenLeaves : List ℕ → List ℕ → List ℕ → List ℕ
-loadWrittenLeaves values written words = unlessRefused (loadCall values written words) written (flagsStored written words)
+unfoldable pub acceptValuesLeaves : List ℕ → List ℕ → List ℕ → ℕ → List ℕ
+acceptValuesLeaves values written words room = unlessRefused (acceptCall values written words room) values (valuesStored values words)
+
+unfoldable pub acceptWrittenLeaves : List ℕ → List ℕ → List ℕ → ℕ → List ℕ
+acceptWrittenLeaves values written words room = unlessRefused (acceptCall values written words room) written (flagsStored written words)
+
+-- The same for sound alone.
+unfoldable pub acceptSoundCall : List ℕ → List ℕ → List ℕ → Told (Unit {0})
+acceptSoundCall values written words = andThen (recordTold values written) (λ g. acceptSoundTold g words)
+
+unfoldable pub soundValuesLeaves : List ℕ → List ℕ → List ℕ → List ℕ
+soundValuesLeaves values written words = unlessRefused (acceptSoundCall values written words) values (valuesStored values words)
+
+unfoldable pub soundWrittenLeaves : List ℕ → List ℕ → List ℕ → List ℕ
+soundWrittenLeaves values written words = unlessRefused (acceptSoundCall values written words) written (flagsStored written words)
 
 -- One word alone.
 unfoldable pub wordCall : List ℕ → List ℕ → ℕ → Told (Unit {0})

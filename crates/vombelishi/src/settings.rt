@@ -1,13 +1,10 @@
-// Records judged: for pictures, with the numbers of an accepted setting, and for sound.
-use crate::code::SHORT;
+// The numbers of an accepted setting, and records judged for sound.
 use crate::code::answered;
-use crate::code::refused;
 use crate::put::store_words;
 use crate::record::lacks;
 use crate::record::record_of;
 use refusals::Answer;
 use refusals::Refusal;
-use registers::check::Checked;
 use registers::setting::Setting;
 ghost use mathlib.Core.Path.{_≡_};
 ghost use Prim.Native.Nat.{_≤_};
@@ -15,13 +12,12 @@ ghost use mathlib.Core.Bool.{cond};
 ghost use lib.ListN.{length};
 ghost use lib.Seq.{sets};
 ghost use Rattle.registers.specs.inner.Accepted.{Accepted};
-ghost use Rattle.registers.specs.Check.{checkSays};
 ghost use Rattle.refusals.specs.Refusals.{answerSays};
-ghost use Rattle.vombelishi.specs.Code.{answerCode, storedBy};
-ghost use Rattle.vombelishi.specs.Settings.{numbersOf, settingTold, checkCall, checkSoundCall};
+ghost use Rattle.vombelishi.specs.Code.{answerCode};
+ghost use Rattle.vombelishi.specs.Settings.{numbersOf, checkSoundCall};
 
 // How many numbers a setting has.
-const NUMBERS: usize = 21;
+pub(crate) const NUMBERS: usize = 21;
 
 fn wide(number: u16) -> u32
     ensures { λ r. ⌜ r ≡ number ⌝ }
@@ -35,7 +31,7 @@ fn flag(on: bool) -> u32
     on as u32
 }
 
-fn put_setting(s: Setting, out: &mut [u32])
+pub(crate) fn put_setting(s: Setting, out: &mut [u32])
     requires { ⌜ (21 ≤ length (now out)) × Accepted s ⌝ }
     ensures { λ _. ⌜ now (out .exit) ≡ sets (now (out .entry)) 0 (numbersOf s) ⌝ }
 {
@@ -65,15 +61,6 @@ fn put_setting(s: Setting, out: &mut [u32])
     store_words(out, &numbers);
 }
 
-fn judge(values: &[u32], written: &[u8]) -> Checked
-    ensures { λ r. ⌜ checkSays r ≡ settingTold (now (values .entry)) (now (written .entry)) ⌝ }
-{
-    if lacks(values, written) {
-        return Checked::Refused(Refusal::Short);
-    }
-    record_of(values, written).check()
-}
-
 fn judge_sound(values: &[u32], written: &[u8]) -> Answer
     ensures { λ r. ⌜ answerSays r ≡ checkSoundCall (now (values .entry)) (now (written .entry)) ⌝ }
 {
@@ -81,27 +68,6 @@ fn judge_sound(values: &[u32], written: &[u8]) -> Answer
         return Answer::Refused(Refusal::Short);
     }
     record_of(values, written).check_sound()
-}
-
-// The 21 numbers of the setting; 13 for slices shorter than 64, then the setting's, then 13 for `setting`.
-#[no_mangle]
-pub extern "C" fn vom_check(values: &[u32], written: &[u8], setting: &mut [u32]) -> u64
-    ensures { λ r. ⌜
-        (r ≡ answerCode (checkCall (now (values .entry)) (now (written .entry)) (length (now (setting .entry)))))
-        × (now (setting .exit)
-        ≡ storedBy (checkCall (now (values .entry)) (now (written .entry)) (length (now (setting .entry)))) (now (setting .entry)))
-        ⌝ }
-{
-    match judge(values, written) {
-        Checked::Refused(why) => refused(why),
-        Checked::Accepted(s) => {
-            if setting.len() < NUMBERS {
-                return SHORT;
-            }
-            put_setting(s, setting);
-            0
-        }
-    }
 }
 
 // Whether the record can be played; 13 for slices shorter than 64, then 3, 10.

@@ -1,6 +1,8 @@
 // The printer's text of a plate file, whole.
 use crate::code::SHORT;
 use refusals::Answer;
+use registers::check::Checked;
+use registers::record::Registers;
 use sheets::Parts;
 use sheets::input::take_input;
 ghost use mathlib.Core.Path.{_≡_};
@@ -12,28 +14,24 @@ ghost use Rattle.outputs.specs.Text.{pictureText, textOf};
 ghost use Rattle.vombelishi.specs.Code.{answerCode, cellBy};
 ghost use Rattle.vombelishi.specs.Texts.{textCall, textLeaves};
 
-// The text of a plate that was taken apart, its words in order.
-fn put_parts(parts: Parts, words: &[u32], out: &mut [u8]) -> usize
+// The text of a record and the lists of a plate that was taken apart, its words in order.
+fn put_parts(g: Registers, parts: Parts, words: &[u32], out: &mut [u8]) -> usize
     requires { ⌜ (parts .video ≤ parts .cursor) × (parts .cursor ≤ parts .sound) × (parts .sound ≤ length (now words)) ⌝ }
     ensures { λ r. ⌜
         Put (now (out .entry)) (now (out .exit)) 0
         (textIn (length (now (out .entry)))
-        (pictureText (parts .registers) (part (now (words .entry)) (parts .video) (parts .cursor))
+        (pictureText g (part (now (words .entry)) (parts .video) (parts .cursor))
         (part (now (words .entry)) (parts .cursor) (parts .sound)))) r
         ⌝ }
 {
     let video = parts.video;
     let cursor = parts.cursor;
     let sound = parts.sound;
-    outputs::whole::text(
-        parts.registers,
-        &words[video..cursor],
-        &words[cursor..sound],
-        out,
-    )
+    outputs::whole::text(g, &words[video..cursor], &words[cursor..sound], out)
 }
 
-// The text, refused or not, and its length; no bytes where it does not fit. The plate is taken apart once.
+// The text, refused or not, and its length; no bytes where it does not fit. The plate is taken apart once, and its register words are loaded
+// and checked once.
 fn put_text(file: &[u8], out: &mut [u8]) -> usize
     ensures { λ r. ⌜ Put (now (out .entry)) (now (out .exit)) 0 (textIn (length (now (out .entry))) (textOf (now (file .entry)))) r ⌝ }
 {
@@ -43,7 +41,16 @@ fn put_text(file: &[u8], out: &mut [u8]) -> usize
     let parts = taken.parts;
     match answer {
         Answer::Refused(why) => outputs::text::refused(why, out),
-        Answer::Done => put_parts(parts, &words, out),
+        Answer::Done => {
+            let video = parts.video;
+            let verdict = Registers::new().load_and_check(&words[0..video]);
+            let g = verdict.registers;
+            let checked = verdict.checked;
+            match checked {
+                Checked::Refused(why) => outputs::text::refused(why, out),
+                Checked::Accepted(_) => put_parts(g, parts, &words, out),
+            }
+        }
     }
 }
 

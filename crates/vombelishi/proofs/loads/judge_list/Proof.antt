@@ -1,10 +1,9 @@
--- A list is judged on any record alike: slices that are no record are refused first, else the answer is that of loading into a fresh one.
+-- Slices that are no record are refused; else the answer is that of their record and the list.
+use Rattle.registers.specs.Accept.{acceptTold}
+use Rattle.vombelishi.specs.Load.{acceptedTold}
+use Rattle.vombelishi.proofs.Records.{long-enough, told-short, told-by}
+use mathlib.Core.Path.{sym, _∙_}
 use borrow.Author.Needs.{needs}
-use mathlib.Core.Path.{refl, sym, _∙_}
-use Rattle.registers.specs.Load.{loadTold}
-use Rattle.vombelishi.specs.Record.{recordOf}
-use Rattle.vombelishi.specs.Load.{loadCall}
-use Rattle.vombelishi.proofs.Records.{told-short, told-by}
 use Rattle.vombelishi.proofs.loads.judge_list.Statement.{statement}
 use Rattle.vombelishi.proofs.loads.judge_list.Tie as tie
 
@@ -12,23 +11,27 @@ lacks-requires : tie.Need-lacks-requires
 lacks-requires c κs = search needs
 
 returns : tie.Need-returns
-unfolding loadCall
+unfolding acceptedTold
 returns c =
+    let words = c .before .before .before .before .before .args .words .now in
+    told-short _ _ (λ g. acceptTold g words) (sym (c .before .lacks .ensures) ∙ c .if1 .taken)
+
+record-of-requires : tie.Need-record-of-requires
+record-of-requires c κs =
     let args = c .before .before .before .before .before .args in
-    told-short (args .values .now) (args .written .now) (λ g. loadTold (args .words .now)) (sym (c .before .lacks .ensures) ∙ c .if1 .taken)
+    long-enough (args .values .now) (args .written .now) (sym (c .before .lacks .ensures) ∙ c .if1 .left)
 
-new-requires : tie.Need-new-requires
-new-requires c κs = search needs
-
-load-requires : tie.Need-load-requires
-load-requires c κs = search needs
+load-and-check-requires : tie.Need-load-and-check-requires
+load-and-check-requires c κs = search needs
 
 returns-2 : tie.Need-returns-2
-unfolding loadCall
+unfolding acceptedTold
 returns-2 c =
-    let args = c .before .before .before .before .before .before .before .args in
-    told-by (args .values .now) (args .written .now) (λ g. loadTold (args .words .now)) (recordOf (args .values .now) (args .written .now)) _
-    (sym (c .before .before .before .lacks .ensures) ∙ c .before .before .if1 .left) refl (c .load .ensures .0)
+    let words = c .before .before .before .before .before .before .before .args .words .now in
+    told-by _ _ (λ g. acceptTold g words) _ _ (sym (c .before .before .before .lacks .ensures) ∙ c .before .before .if1 .left) (c .before .record-of .ensures)
+    (c .load-and-check .ensures .0)
 
 pub judge-list-spec : {M : Type 1} → statement M
-judge-list-spec = tie.close (tie.spec lacks-requires returns new-requires load-requires returns-2)
+judge-list-spec =
+    tie.close
+    (tie.spec lacks-requires returns record-of-requires load-and-check-requires returns-2)
