@@ -1,2 +1,1 @@
 pub mod Natural
-pub mod Trailer

@@ -3,6 +3,7 @@ use crate::line::Line;
 use crate::names::put_register;
 use crate::terms::put_depth;
 use crate::words::address_of;
+use crate::words::stored;
 use refusals::Answer;
 use refusals::Refusal;
 use registers::record::Registers;
@@ -73,8 +74,9 @@ fn put_plain_rule(line: Line, number: u32) -> Line {
     }
 }
 
-// The rule that a refusal stands for, with what broke it.
-fn put_rule(line: Line, why: Refusal, g: Registers, words: &[u32]) -> Line {
+// The rule that a refusal stands for, with what broke it in the registers as the words leave them.
+fn put_rule(line: Line, why: Refusal, words: &[u32]) -> Line {
+    let g = stored(words);
     let s = g.setting();
     match why {
         Refusal::Reserved(index) => put_reserved(line, words, index),
@@ -88,8 +90,8 @@ fn put_rule(line: Line, why: Refusal, g: Registers, words: &[u32]) -> Line {
     }
 }
 
-// One line, and whether it was written: what is judged, and the answer. `words` are the register words, and `g` what they leave.
-pub fn print_verdict(judged: &[u8], answer: Answer, g: Registers, words: &[u32]) -> bool {
+// One line, and whether it was written: what is judged, and the answer. `words` are the register words.
+pub fn print_verdict(judged: &[u8], answer: Answer, words: &[u32]) -> bool {
     let line = Line::new().text(judged);
     match answer {
         Answer::Done => line.text(b": accepted").print(),
@@ -99,7 +101,7 @@ pub fn print_verdict(judged: &[u8], answer: Answer, g: Registers, words: &[u32])
                 .text(b" ")
                 .number(why.detail() as u64)
                 .text(b": ");
-            put_rule(line, why, g, words).print()
+            put_rule(line, why, words).print()
         }
     }
 }

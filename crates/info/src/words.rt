@@ -9,7 +9,7 @@ pub fn address_of(word: u32) -> usize {
 }
 
 // What all words leave in the registers, with the reserved ones passed over.
-fn stored(words: &[u32]) -> Registers {
+pub fn stored(words: &[u32]) -> Registers {
     let mut g = Registers::new();
     let mut k = 0;
     while k < words.len() {

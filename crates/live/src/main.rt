@@ -109,17 +109,20 @@ fn run_picture(g: Registers, video: &[u32], cursor: &[u32]) {
     }
 }
 
+// The register words are loaded and checked first.
 fn run_parts(parts: Parts, words: &[u32])
     requires { ⌜ (parts .video ≤ parts .cursor) × (parts .cursor ≤ parts .sound) × (parts .sound ≤ length (now words)) ⌝ }
 {
     let video = parts.video;
     let cursor = parts.cursor;
     let sound = parts.sound;
-    run_picture(
-        parts.registers,
-        &words[video..cursor],
-        &words[cursor..sound],
-    );
+    let verdict = Registers::new().load_and_check(&words[0..video]);
+    let g = verdict.registers;
+    let checked = verdict.checked;
+    match checked {
+        Checked::Refused(why) => say_refused(why),
+        Checked::Accepted(_) => run_picture(g, &words[video..cursor], &words[cursor..sound]),
+    }
 }
 
 fn run_plate(plate: &[u8]) {

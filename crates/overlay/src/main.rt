@@ -98,17 +98,20 @@ fn show_mixed(g: Registers, video: &[u32], cursor: &[u32]) {
     }
 }
 
+// The register words are loaded and checked first.
 fn show_parts(parts: Parts, words: &[u32])
     requires { ⌜ (parts .video ≤ parts .cursor) × (parts .cursor ≤ parts .sound) × (parts .sound ≤ length (now words)) ⌝ }
 {
     let video = parts.video;
     let cursor = parts.cursor;
     let sound = parts.sound;
-    show_mixed(
-        parts.registers,
-        &words[video..cursor],
-        &words[cursor..sound],
-    );
+    let verdict = Registers::new().load_and_check(&words[0..video]);
+    let g = verdict.registers;
+    let checked = verdict.checked;
+    match checked {
+        Checked::Refused(why) => say_refused(why),
+        Checked::Accepted(_) => show_mixed(g, &words[video..cursor], &words[cursor..sound]),
+    }
 }
 
 fn show_plate(plate: &[u8]) {

@@ -3,6 +3,7 @@ use libc::STDERR_FILENO;
 use libc::STDOUT_FILENO;
 use refusals::Answer;
 use refusals::Refusal;
+use registers::check::Checked;
 use registers::record::Registers;
 use sheets::Parts;
 use sheets::input::take_input;
@@ -52,24 +53,27 @@ fn show_picture(g: Registers, video: &[u32], cursor: &[u32]) {
     show(g, video, cursor);
 }
 
+// Why there is no record or there are no lists of a picture.
+fn say_untaken(why: Refusal) {
+    let mut text = [0u8; 64];
+    let n = outputs::text::refused(why, &mut text);
+    io::write_all(STDERR_FILENO, &text[..n]);
+}
+
+// The register words are loaded and checked before a strip is written.
 fn show_parts(parts: Parts, words: &[u32])
     requires { ⌜ (parts .video ≤ parts .cursor) × (parts .cursor ≤ parts .sound) × (parts .sound ≤ length (now words)) ⌝ }
 {
     let video = parts.video;
     let cursor = parts.cursor;
     let sound = parts.sound;
-    show_picture(
-        parts.registers,
-        &words[video..cursor],
-        &words[cursor..sound],
-    );
-}
-
-// Why a plate is not taken apart.
-fn say_untaken(why: Refusal) {
-    let mut text = [0u8; 64];
-    let n = outputs::text::refused(why, &mut text);
-    io::write_all(STDERR_FILENO, &text[..n]);
+    let verdict = Registers::new().load_and_check(&words[0..video]);
+    let g = verdict.registers;
+    let checked = verdict.checked;
+    match checked {
+        Checked::Refused(why) => say_untaken(why),
+        Checked::Accepted(_) => show_picture(g, &words[video..cursor], &words[cursor..sound]),
+    }
 }
 
 fn show_plate(plate: &[u8]) {

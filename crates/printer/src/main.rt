@@ -2,6 +2,7 @@
 use libc::STDOUT_FILENO;
 use refusals::Answer;
 use refusals::Refusal;
+use registers::check::Checked;
 use registers::record::Registers;
 use sheets::Parts;
 use sheets::input::take_input;
@@ -35,24 +36,27 @@ fn print(g: Registers, video: &[u32], cursor: &[u32]) {
     }
 }
 
+// A plate that is refused has one line, which says why.
+fn print_refused(why: Refusal) {
+    let mut text = [0u8; 64];
+    let n = outputs::text::refused(why, &mut text);
+    write(&text[..n]);
+}
+
+// The register words are loaded and checked before a line is written.
 fn print_parts(parts: Parts, words: &[u32])
     requires { ⌜ (parts .video ≤ parts .cursor) × (parts .cursor ≤ parts .sound) × (parts .sound ≤ length (now words)) ⌝ }
 {
     let video = parts.video;
     let cursor = parts.cursor;
     let sound = parts.sound;
-    print(
-        parts.registers,
-        &words[video..cursor],
-        &words[cursor..sound],
-    );
-}
-
-// A plate that is not taken apart has one line, which says why.
-fn print_refused(why: Refusal) {
-    let mut text = [0u8; 64];
-    let n = outputs::text::refused(why, &mut text);
-    write(&text[..n]);
+    let verdict = Registers::new().load_and_check(&words[0..video]);
+    let g = verdict.registers;
+    let checked = verdict.checked;
+    match checked {
+        Checked::Refused(why) => print_refused(why),
+        Checked::Accepted(_) => print(g, &words[video..cursor], &words[cursor..sound]),
+    }
 }
 
 fn print_plate(plate: &[u8]) {

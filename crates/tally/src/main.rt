@@ -6,6 +6,7 @@ mod threshold;
 use marks::summaries::summaries;
 use refusals::Answer;
 use refusals::Refusal;
+use registers::check::Checked;
 use registers::record::Registers;
 use said::say_entries;
 use said::write;
@@ -32,18 +33,25 @@ fn tally(g: Registers, video: &[u32], cursor: &[u32], threshold: u8) {
     }
 }
 
+// The register words are loaded and checked first.
 fn tally_parts(parts: Parts, words: &[u32], threshold: u8)
     requires { ⌜ (parts .video ≤ parts .cursor) × (parts .cursor ≤ parts .sound) × (parts .sound ≤ length (now words)) ⌝ }
 {
     let video = parts.video;
     let cursor = parts.cursor;
     let sound = parts.sound;
-    tally(
-        parts.registers,
-        &words[video..cursor],
-        &words[cursor..sound],
-        threshold,
-    );
+    let verdict = Registers::new().load_and_check(&words[0..video]);
+    let g = verdict.registers;
+    let checked = verdict.checked;
+    match checked {
+        Checked::Refused(why) => say_refused(why),
+        Checked::Accepted(_) => tally(
+            g,
+            &words[video..cursor],
+            &words[cursor..sound],
+            threshold,
+        ),
+    }
 }
 
 fn tally_plate(plate: &[u8], threshold: u8) {

@@ -31,28 +31,27 @@ fn play(g: Registers, words: &[u32]) {
     }
 }
 
-// The line that refuses the sound, which has no block; nothing where it is not refused.
-fn say_refused(g: Registers) {
-    let mut text = [0u8; 64];
-    let n = outputs::blocks::refusal(g, &mut text);
-    io::write_all(STDERR_FILENO, &text[..n]);
-}
-
-fn play_parts(parts: Parts, words: &[u32])
-    requires { ⌜ (parts .sound ≤ parts .end) × (parts .end ≤ length (now words)) ⌝ }
-{
-    let g = parts.registers;
-    let sound = parts.sound;
-    let end = parts.end;
-    say_refused(g);
-    play(g, &words[sound..end]);
-}
-
-// Why a plate is not taken apart.
-fn say_untaken(why: Refusal) {
+// A plate or a sound that is refused has one line, which says why.
+fn say_refused(why: Refusal) {
     let mut text = [0u8; 64];
     let n = outputs::text::refused(why, &mut text);
     io::write_all(STDERR_FILENO, &text[..n]);
+}
+
+// The register words are loaded and judged for sound before a block is written.
+fn play_parts(parts: Parts, words: &[u32])
+    requires { ⌜ (parts .video ≤ length (now words)) × (parts .sound ≤ parts .end) × (parts .end ≤ length (now words)) ⌝ }
+{
+    let video = parts.video;
+    let sound = parts.sound;
+    let end = parts.end;
+    let loaded = Registers::new().load_and_check_sound(&words[0..video]);
+    let g = loaded.registers;
+    let answer = loaded.answer;
+    match answer {
+        Answer::Refused(why) => say_refused(why),
+        Answer::Done => play(g, &words[sound..end]),
+    }
 }
 
 fn play_plate(plate: &[u8]) {
@@ -60,7 +59,7 @@ fn play_plate(plate: &[u8]) {
     let taken = take_input(plate, &mut words);
     let answer = taken.answer;
     match answer {
-        Answer::Refused(why) => say_untaken(why),
+        Answer::Refused(why) => say_refused(why),
         Answer::Done => play_parts(taken.parts, &words),
     }
 }

@@ -1,6 +1,6 @@
 -- A plate that is refused is told so, and one that is taken apart has its lists in order among its words, which are as many as before.
 use mathlib.Core.Path.{sym}
-use Rattle.sheets.proofs.Sheets.{input-length, input-refused, input-held}
+use Rattle.sheets.proofs.Sheets.{input-length, input-held}
 use borrow.Author.Needs.{needs}
 use Rattle.info.proofs.plate.print_plate.Statement.{statement}
 use Rattle.info.proofs.plate.print_plate.Tie as tie
@@ -12,9 +12,7 @@ enum-known-answer : tie.Need-enum-known-answer
 enum-known-answer c = search needs
 
 print-not-taken-requires : tie.Need-print-not-taken-requires
-print-not-taken-requires c κs =
-    let taken = c .before .before .before .take-input in
-    input-refused (c .before .before .before .before .before .before .args .plate .now) _ _ (taken .result) (taken .ensures) _ (c .before .answer .given .1)
+print-not-taken-requires c κs = search needs
 
 enum-told : tie.Need-enum-told
 enum-told c = search needs
