@@ -6,8 +6,9 @@
  * are used. A pointer without a length (`count`, `colour`, `supremacy`, `counter`, `size`, `words` of vom_sync_ask) is
  * that of one number, and may not be NULL. What a call writes may not overlap anything else that is handed to that call.
  *
- * Lent to be changed, so that what stands there counts, are the record of vom_load and vom_load_word, `counter`, a
- * queue, and `video` and `entries` of vom_replace. Every other pointer that is not const is lent for an answer.
+ * Lent to be changed, so that what stands there counts, are the record of vom_load_and_check, vom_load_and_check_sound
+ * and vom_load_word, `counter`, a queue, and `video` and `entries` of vom_replace. Every other pointer that is not
+ * const is lent for an answer.
  *
  * Answers. Every call that answers uint64_t answers 0 for success, else number * 2^32 + detail of a row
  * of the table below: VOM_NUMBER and VOM_DETAIL take them apart. A refused call writes nothing. A call on a queue
@@ -91,20 +92,24 @@ typedef struct vom_reply {
     uint16_t asks;   /* 1 where the queue asks: four words or more are still to come; else 0 */
 } vom_reply;
 
-/* Applies register words to a record, in order. Refusals: 13 (record), 1 (more than 1,024 words), 2 (a reserved
- * address; detail: the index of the first). Writes, for each word, its data to `values` and 1 to `written`, both at
- * its address / 4; every other element stays as it was. */
-uint64_t vom_load(uint32_t *values, size_t values_len, uint8_t *written, size_t written_len,
-                  const uint32_t *words, size_t words_len);
+/* Applies register words to a record, in order, and judges what they leave, for pictures: all of it or nothing. An
+ * empty list judges the record as it stands. Refusals: 13 (record), 1 (more than 1,024 words), 2 (a reserved address;
+ * detail: the index of the first), then of the record with the words applied 3 (detail: the lowest address) to 6, 19,
+ * 7 to 9, then 13 (`setting` shorter than 21). Writes, for each word, its data to `values` and 1 to `written`, both at
+ * its address / 4; every other element stays as it was. Writes 21 numbers to `setting`: N, HS, BS, DS, DE, BE, CX; V,
+ * VS, VBS, VDS, VDE, VBE, VCS, VCE; the depth; display, border, cursor on (1 or 0); the video words and the cursor
+ * words that a frame needs. */
+uint64_t vom_load_and_check(uint32_t *values, size_t values_len, uint8_t *written, size_t written_len,
+                            const uint32_t *words, size_t words_len, uint32_t *setting, size_t setting_len);
 
-/* Applies one word. Refusals: 13 (record), 2 (detail 0). Writes as vom_load does. */
+/* The same for sound alone. Refusals: 13 (record), 1, 2 (detail: the index of the first), then of the record with the
+ * words applied 3, 10 (detail: the lowest address). Writes the words as vom_load_and_check does. */
+uint64_t vom_load_and_check_sound(uint32_t *values, size_t values_len, uint8_t *written, size_t written_len,
+                                  const uint32_t *words, size_t words_len);
+
+/* Applies one word, whatever record it leaves. Refusals: 13 (record), 2 (detail 0). Writes it as vom_load_and_check
+ * does. */
 uint64_t vom_load_word(uint32_t *values, size_t values_len, uint8_t *written, size_t written_len, uint32_t word);
-
-/* Judges a record for pictures. Refusals: 13 (record), 3 (detail: the lowest address) to 6, 19, 7 to 9, 13 (`setting`
- * shorter than 21). Writes 21 numbers to `setting`: N, HS, BS, DS, DE, BE, CX; V, VS, VBS, VDS, VDE, VBE, VCS, VCE;
- * the depth; display, border, cursor on (1 or 0); the video words and the cursor words that a frame needs. */
-uint64_t vom_check(const uint32_t *values, size_t values_len, const uint8_t *written, size_t written_len,
-                   uint32_t *setting, size_t setting_len);
 
 /* Judges a record for sound. Refusals: 13 (record), 3, 10 (detail: the lowest address). Writes nothing. */
 uint64_t vom_check_sound(const uint32_t *values, size_t values_len, const uint8_t *written, size_t written_len);
@@ -220,8 +225,8 @@ vom_reply vom_queue_ask(vom_queue *queue, uint32_t words);
 
 /* How many words the sync of a raster, from its start to its end, asks of a queue of a kind: 8 of video where the
  * raster is VDS and VDE > VDS; 4 of a cursor, where both its vertical registers are written, on the rasters VCS,
- * VCS + 2 and so on below VCE; else 0. The registers need not pass vom_check. Refusal: 13 (record). Writes one number
- * to `words`. */
+ * VCS + 2 and so on below VCE; else 0. The registers count as they stand: no check is asked of them. Refusal: 13
+ * (record). Writes one number to `words`. */
 uint64_t vom_sync_ask(const uint32_t *values, size_t values_len, const uint8_t *written, size_t written_len,
                       uint16_t kind, uint32_t raster, uint32_t *words);
 

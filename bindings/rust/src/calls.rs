@@ -58,17 +58,18 @@ pub struct Reply {
 
 #[rustfmt::skip] // a pointer and its length on one line
 extern "C" {
-    pub fn vom_load(
+    pub fn vom_load_and_check(
+        values: *mut u32, values_len: usize,
+        written: *mut u8, written_len: usize,
+        words: *const u32, words_len: usize,
+        setting: *mut u32, setting_len: usize,
+    ) -> u64;
+    pub fn vom_load_and_check_sound(
         values: *mut u32, values_len: usize,
         written: *mut u8, written_len: usize,
         words: *const u32, words_len: usize,
     ) -> u64;
     pub fn vom_load_word(values: *mut u32, values_len: usize, written: *mut u8, written_len: usize, word: u32) -> u64;
-    pub fn vom_check(
-        values: *const u32, values_len: usize,
-        written: *const u8, written_len: usize,
-        setting: *mut u32, setting_len: usize,
-    ) -> u64;
     pub fn vom_check_sound(values: *const u32, values_len: usize, written: *const u8, written_len: usize) -> u64;
     pub fn vom_frame(
         values: *const u32, values_len: usize,

@@ -1,7 +1,7 @@
 //! Marks per raster: the entries of the displayed rasters, made of a list of video words and kept while it changes.
 
+use crate::accepted::Accepted;
 use crate::calls::*;
-use crate::record::Record;
 use crate::refusal::{answer, Refusal};
 
 /// What is kept of one displayed raster, over its display cells (code 5).
@@ -25,24 +25,24 @@ impl Entry {
 }
 
 #[rustfmt::skip] // a pointer and its length on one line
-impl Record {
-    /// The entries of the displayed rasters, in order from VDS on; none where the display is off. Refusals: 3 to 6, 19, 7 to 9, 11.
+impl Accepted {
+    /// The entries of the displayed rasters, in order from VDS on; none where the display is off. Refusal: 11.
     pub fn summaries(&self, video: &[u32], cursor: &[u32], threshold: u8) -> Result<Vec<Entry>, Refusal> {
-        let setting = self.check()?;
+        let setting = self.setting();
         let mut entries = vec![Entry::EMPTY; setting.vde.saturating_sub(setting.vds) as usize];
         self.summaries_into(video, cursor, threshold, &mut entries)?;
         Ok(entries)
     }
 
-    /// As [`Record::summaries`], the entries at the start of `entries`. Refusals: 3 to 6, 19, 7 to 9, 11, 13.
+    /// As [`Accepted::summaries`], the entries at the start of `entries`. Refusals: 11, 13.
     pub fn summaries_into(
         &self, video: &[u32], cursor: &[u32], threshold: u8, entries: &mut [Entry],
     ) -> Result<(), Refusal> {
         // SAFETY: see `calls`; as many numbers are lent as the entries have.
         answer(unsafe {
             vom_summaries(
-                self.values.as_ptr(), 64,
-                self.written.as_ptr(), 64,
+                self.record().values.as_ptr(), 64,
+                self.record().written.as_ptr(), 64,
                 video.as_ptr(), video.len(),
                 cursor.as_ptr(), cursor.len(),
                 threshold,
@@ -53,7 +53,7 @@ impl Record {
 
     /// Puts `word` into `video` at `index`, and the new entry of the raster that it belongs to into `entries`, which
     /// costs one raster and not a frame. All other words and entries stay as they were, right or not. Entries that
-    /// [`Record::summaries`] made, with the same cursor words and threshold, stay right so. Refusals: 3 to 6, 19, 7 to 9, 11, 18, 13.
+    /// [`Accepted::summaries`] made, with the same cursor words and threshold, stay right so. Refusals: 11, 18, 13.
     ///
     /// ```
     /// # use vombelishi::{plate, Entry, Record, Refusal};
@@ -62,14 +62,13 @@ impl Record {
     /// # let mut words = vec![0; places.r];
     /// # plate::copy(file, &mut words)?;
     /// # let [registers, video, cursor, _] = places.sections(&words);
-    /// # let mut record = Record::new();
-    /// # record.load(registers)?;
+    /// # let accepted = Record::new().load_and_check(registers)?;
     /// let mut video = video.to_vec();
-    /// let mut entries = record.summaries(&video, cursor, 30)?;
+    /// let mut entries = accepted.summaries(&video, cursor, 30)?;
     /// assert_eq!(entries, [Entry { marks: 2, least: 0, greatest: 35 }]);
-    /// record.replace(&mut video, cursor, 30, 0, 0xFFFF_7777, &mut entries)?;
+    /// accepted.replace(&mut video, cursor, 30, 0, 0xFFFF_7777, &mut entries)?;
     /// assert_eq!((&video[..], &entries[..]), (&[0xFFFF_7777][..], &[Entry { marks: 8, least: 35, greatest: 76 }][..]));
-    /// let outside = record.replace(&mut video, cursor, 30, 1, 0, &mut entries);
+    /// let outside = accepted.replace(&mut video, cursor, 30, 1, 0, &mut entries);
     /// assert_eq!(outside, Err(Refusal { number: 18, detail: 0 }));
     /// # Ok::<(), Refusal>(())
     /// ```
@@ -79,8 +78,8 @@ impl Record {
         // SAFETY: see `calls`; as many numbers are lent as the entries have.
         answer(unsafe {
             vom_replace(
-                self.values.as_ptr(), 64,
-                self.written.as_ptr(), 64,
+                self.record().values.as_ptr(), 64,
+                self.record().written.as_ptr(), 64,
                 video.as_mut_ptr(), video.len(),
                 cursor.as_ptr(), cursor.len(),
                 threshold,
