@@ -22,7 +22,7 @@ static uint8_t written[VOM_REGISTERS];
 /* The paper's small plate, and sound at the centre; its cursor is off. */
 static void load_small(void) {
     static const uint32_t across[] = {15, 1, 3, 2, 6, 11}, down[] = {5, 0, 1, 2, 3, 4};
-    uint32_t words[39], n = 0;
+    uint32_t words[39], setting[VOM_SETTING], n = 0;
     words[n++] = 0xE000000B;
     words[n++] = 0x40000F00;
     words[n++] = 0xC0000003;
@@ -30,7 +30,7 @@ static void load_small(void) {
     for (uint32_t i = 0; i < 6; i++) words[n++] = (0x80 + 4 * i) << 24 | across[i] << 14;
     for (uint32_t i = 0; i < 6; i++) words[n++] = (0xA0 + 4 * i) << 24 | down[i] << 14;
     for (uint32_t i = 0; i < 8; i++) words[n++] = (0x60 + 4 * i) << 24 | 4;
-    is("the registers", vom_load(GIVEN, words, n) == 0);
+    is("the registers", vom_load_and_check(GIVEN, words, n, setting, VOM_SETTING) == 0);
 }
 
 static void no_record(void) {
@@ -39,10 +39,11 @@ static void no_record(void) {
     uint8_t supremacy = 7;
     uint64_t place[2], count = 7;
     int16_t out[8];
-    is("vom_load, no values", vom_load(NONE, written, VOM_REGISTERS, video, 0) == SHORT);
-    is("vom_load, no written", vom_load(values, VOM_REGISTERS, NONE, video, 0) == SHORT);
+    is("vom_load_and_check, no values", vom_load_and_check(NONE, written, VOM_REGISTERS, video, 0, setting, VOM_SETTING) == SHORT);
+    is("vom_load_and_check, no written", vom_load_and_check(values, VOM_REGISTERS, NONE, video, 0, setting, VOM_SETTING) == SHORT);
+    is("vom_load_and_check_sound, no values", vom_load_and_check_sound(NONE, written, VOM_REGISTERS, video, 0) == SHORT);
+    is("vom_load_and_check_sound, no written", vom_load_and_check_sound(values, VOM_REGISTERS, NONE, video, 0) == SHORT);
     is("vom_load_word, no record", vom_load_word(NONE, NONE, 0xE000000B) == SHORT);
-    is("vom_check, no record", vom_check(NONE, NONE, setting, VOM_SETTING) == SHORT);
     is("vom_check_sound, no record", vom_check_sound(NONE, NONE) == SHORT);
     is("vom_frame, no record", vom_frame(NONE, NONE, video, 1, NONE, cells, 192) == SHORT);
     is("vom_raster, no record", vom_raster(NONE, NONE, video, 1, NONE, 0, cells, 192) == SHORT);
@@ -57,11 +58,13 @@ static void no_record(void) {
 }
 
 static void no_lists(void) {
-    uint32_t before[VOM_REGISTERS], counter = 4294967295u;
+    uint32_t before[VOM_REGISTERS], setting[VOM_SETTING], counter = 4294967295u;
     uint16_t cells[192], entry[VOM_ENTRY] = {7, 7, 7};
     uint64_t place[2], count = 7;
     memcpy(before, values, sizeof before);
-    is("vom_load, no words", vom_load(GIVEN, NONE) == 0 && !memcmp(before, values, sizeof before));
+    is("vom_load_and_check, no words", vom_load_and_check(GIVEN, NONE, setting, VOM_SETTING) == 0 && setting[0] == 32 && setting[7] == 6);
+    is("vom_load_and_check_sound, no words", vom_load_and_check_sound(GIVEN, NONE) == 0);
+    is("the record after no words", !memcmp(before, values, sizeof before));
     is("vom_frame, no cursor", vom_frame(GIVEN, video, 1, NONE, cells, 192) == 0 && cells[3 * 32 + 18] == 40967);
     is("vom_raster, no cursor", vom_raster(GIVEN, video, 1, NONE, 3, cells, 192) == 0 && cells[11] == 40960);
     is("vom_marks, no cursor", vom_marks(GIVEN, video, 1, NONE, 0, &count) == 0 && count == 8);
@@ -78,12 +81,12 @@ static void no_lists(void) {
 }
 
 static void no_answers(void) {
-    uint32_t word = 0x20202020, counter = 7;
+    uint32_t word = 0x20202020, counter = 7, before = values[8];
     uint16_t list[32] = {0}, mixed[32] = {7};
     is("vom_mix, no cells", vom_mix(GIVEN, NONE, list, 32, mixed, 32) == SHORT && mixed[0] == 7);
     is("vom_mix, no camera", vom_mix(GIVEN, list, 32, NONE, mixed, 32) == SHORT && mixed[0] == 7);
     is("vom_mix, no mixed", vom_mix(GIVEN, list, 32, list, 32, NONE) == SHORT);
-    is("vom_check, no setting", vom_check(GIVEN, NONE) == SHORT);
+    is("vom_load_and_check, no setting", vom_load_and_check(GIVEN, &word, 1, NONE) == SHORT && values[8] == before);
     is("vom_frame, no cells", vom_frame(GIVEN, NONE, NONE, NONE) == SHORT);
     is("vom_raster, no cells", vom_raster(GIVEN, NONE, NONE, 3, NONE) == SHORT);
     is("vom_raster_words, no place", vom_raster_words(GIVEN, NONE, 3, NONE) == SHORT);

@@ -11,13 +11,13 @@ static uint8_t written[VOM_REGISTERS];
 /* Supremacy (1000H) for the border and for palette entry 2. */
 static uint64_t load(void) {
     static const uint32_t across[] = {15, 1, 3, 2, 6, 11}, down[] = {5, 0, 1, 2, 3, 4};
-    uint32_t words[30], n = 0;
+    uint32_t words[30], setting[VOM_SETTING], n = 0;
     words[n++] = 0xE000000B;
     words[n++] = 0x40001F00;
     for (uint32_t i = 0; i < 16; i++) words[n++] = i << 26 | (i == 2 ? 0x1000 | i : i);
     for (uint32_t i = 0; i < 6; i++) words[n++] = (0x80 + 4 * i) << 24 | across[i] << 14;
     for (uint32_t i = 0; i < 6; i++) words[n++] = (0xA0 + 4 * i) << 24 | down[i] << 14;
-    return vom_load(GIVEN, words, n);
+    return vom_load_and_check(GIVEN, words, n, setting, VOM_SETTING);
 }
 
 static int refused(uint64_t answer) {

@@ -26,7 +26,8 @@ int main(void) {
     static uint32_t values[VOM_REGISTERS], words;
     static uint8_t written[VOM_REGISTERS];
     const uint32_t registers[] = {0xE0000000 | CONTROL, 0xAC000000 | 1 << 14, 0xB0000000 | 3 << 14}; /* VDS 2, VDE 4 */
-    if (vom_load(values, VOM_REGISTERS, written, VOM_REGISTERS, registers, 3)) return 1;
+    for (int i = 0; i < 3; i++)
+        if (vom_load_word(values, VOM_REGISTERS, written, VOM_REGISTERS, registers[i])) return 1;
     vom_queue queue = vom_queue_fresh(VOM_VIDEO);
     for (uint32_t y = 0; y < 5; y++) {
         vom_queue_vertical_sync(&queue, y);

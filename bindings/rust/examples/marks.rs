@@ -8,10 +8,9 @@ fn marks() -> Result<String, Box<dyn Error>> {
     let mut words = vec![0; places.r];
     plate::copy(&file, &mut words)?;
     let [registers, video, cursor, _sound] = places.sections(&words);
-    let mut record = Record::new();
-    record.load(registers)?;
-    let setting = record.check()?;
-    let marks = record.marks(video, cursor, 128)?;
+    let accepted = Record::new().load_and_check(registers)?;
+    let setting = accepted.setting();
+    let marks = accepted.marks(video, cursor, 128)?;
     Ok(format!("{} x {}, {marks} marks", setting.n, setting.v))
 }
 

@@ -12,15 +12,14 @@ fn mix() -> Result<(), Box<dyn Error>> {
     let mut words = vec![0; places.r];
     plate::copy(&file, &mut words)?;
     let [registers, video, cursor, _sound] = places.sections(&words);
-    let mut record = Record::new();
-    record.load(registers)?;
-    let setting = record.check()?;
+    let accepted = Record::new().load_and_check(registers)?;
+    let setting = accepted.setting();
     let camera = vec![colour; setting.n as usize];
     let (mut cells, mut mixed) = (camera.clone(), camera.clone());
     let mut changed = 0;
     for y in 0..setting.v as u16 {
-        record.raster(video, cursor, y, &mut cells)?;
-        record.mix(&cells, &camera, &mut mixed)?;
+        accepted.raster(video, cursor, y, &mut cells)?;
+        accepted.mix(&cells, &camera, &mut mixed)?;
         changed += cells.iter().zip(&mixed).filter(|(cell, seen)| **cell % 4096 != **seen).count();
     }
     println!("{} x {}, {changed} places changed", setting.n, setting.v);

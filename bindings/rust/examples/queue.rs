@@ -29,15 +29,14 @@ fn frame() -> Result<String, Box<dyn Error>> {
     let mut words = vec![0; places.r];
     plate::copy(&file, &mut words)?;
     let [registers, video, _cursor, _sound] = places.sections(&words);
-    let mut record = Record::new();
-    record.load(registers)?;
-    let (setting, mut left) = (record.check()?, video);
+    let accepted = Record::new().load_and_check(registers)?;
+    let (record, mut left) = (accepted.record(), video);
     let mut queue = Queue::fresh(Queue::VIDEO);
     let mut read = 0;
-    for y in 0..setting.v {
+    for y in 0..accepted.setting().v {
         queue.vertical_sync(y);
         let mut asks = queue.ask(record.sync_ask(Queue::VIDEO, y)).asks;
-        for byte in record.raster_words(video, y as u16)?.iter().flat_map(|word| word.to_le_bytes()) {
+        for byte in accepted.raster_words(video, y as u16)?.iter().flat_map(|word| word.to_le_bytes()) {
             feed(&mut queue, &mut left, asks)?;
             let reply = queue.read(record.values[CONTROL]);
             assert_eq!(reply.answer, Ok(byte), "the queue gives the frame's own bytes");

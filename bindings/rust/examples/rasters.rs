@@ -12,13 +12,12 @@ fn rasters() -> Result<(), Box<dyn Error>> {
     let mut words = vec![0; places.r];
     plate::copy(&file, &mut words)?;
     let [registers, video, cursor, _sound] = places.sections(&words);
-    let mut record = Record::new();
-    record.load(registers)?;
-    let (setting, mut video) = (record.check()?, video.to_vec());
-    let before = record.summaries(&video, cursor, 128)?;
+    let accepted = Record::new().load_and_check(registers)?;
+    let (setting, mut video) = (accepted.setting(), video.to_vec());
+    let before = accepted.summaries(&video, cursor, 128)?;
     let mut after = before.clone();
-    record.replace(&mut video, cursor, 128, index, word, &mut after)?;
-    assert_eq!(after, record.summaries(&video, cursor, 128)?, "what is kept is what is made afresh");
+    accepted.replace(&mut video, cursor, 128, index, word, &mut after)?;
+    assert_eq!(after, accepted.summaries(&video, cursor, 128)?, "what is kept is what is made afresh");
     println!("{} displayed rasters", after.len());
     for (y, (was, is)) in (setting.vds..).zip(before.iter().zip(&after)).filter(|(_, (was, is))| was != is) {
         println!("raster {y} had {} marks, greys {} to {}", was.marks, was.least, was.greatest);
