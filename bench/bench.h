@@ -19,7 +19,7 @@ vom_reply vom_queue_load(vom_queue *queue, uint32_t word);
 vom_reply vom_queue_read(vom_queue *queue, uint32_t control);
 #endif
 
-// A picture as the baselines get it: judged, with its numbers in the order of vom_check's answer, and its 13-bit colours.
+// A picture as the baselines get it: judged, with its numbers in the order in which vom_load_and_check writes them, and its 13-bit colours.
 // Ours starts from the record each time and judges it, which the baselines are spared.
 struct picture {
     uint32_t n, hs, bs, ds, de, be, cx;
@@ -62,7 +62,7 @@ BASELINE(clang)
 void lines_clang(const struct picture *, uint16_t *out);
 void stretches_rust(const struct picture *, uint16_t *out);
 
-// Ours again, by the safe Rust wrapper over the same calls; a record in its own type is made beforehand.
-struct record;
-const struct record *wrapped_record(const uint32_t values[64], const uint8_t written[64]);
-void wrapped_frame(const struct record *, const uint32_t *video, size_t, const uint32_t *cursor, size_t, uint16_t *cells, size_t);
+// Ours again, by the safe Rust wrapper over the same calls; the record is accepted beforehand, in a type of its own.
+struct accepted;
+const struct accepted *wrapped_accepted(const uint32_t values[64], const uint8_t written[64]);
+void wrapped_frame(const struct accepted *, const uint32_t *video, size_t, const uint32_t *cursor, size_t, uint16_t *cells, size_t);

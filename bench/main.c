@@ -21,9 +21,9 @@ static uint32_t words_kept[PLATE_WORDS];
 static uint8_t file_kept[PLATE];
 static uint16_t cells_kept[LARGEST], entries_kept[ENTRIES], mixed_kept[LONGEST];
 static int16_t sound_kept[SOUNDS * 8];
-static const struct record *record; // the same registers in the Rust wrapper's type
+static const struct accepted *accepted; // the same registers in the Rust wrapper's type
 
-static void by_wrapper(void) { wrapped_frame(record, pic.video, pic.video_words, pic.shape, pic.cursor_words, cells, LARGEST); }
+static void by_wrapper(void) { wrapped_frame(accepted, pic.video, pic.video_words, pic.shape, pic.cursor_words, cells, LARGEST); }
 static void rust(void) { stretches_rust(&pic, cells); }
 static void set_cells(void) { memset(cells, 1, 2 * pic.n * pic.v); }
 static void mem_copy(void) { memcpy(words_out, file, 4 * PLATE_WORDS); }
@@ -94,7 +94,7 @@ static void same_marks(void) {
 }
 
 static void same_frames(void) {
-    record = wrapped_record(values, written);
+    accepted = wrapped_accepted(values, written);
     memset(cells, 0xAA, sizeof cells);
     ours_frame();
     memcpy(cells_kept, cells, sizeof cells);

@@ -43,10 +43,9 @@ static size_t register_count;
 
 static void put(uint32_t address, uint32_t data) { registers[register_count++] = address << 24 | data; }
 
-static void load(void) {
+static void clear(void) {
     memset(values, 0, sizeof values);
     memset(written, 0, sizeof written);
-    if (vom_load(GIVEN, registers, register_count)) die("the registers were refused");
 }
 
 // The word is the first of a raster that the cursor crosses, the dearest kind.
@@ -76,8 +75,8 @@ static void set(uint32_t depth, const uint32_t x[7], const uint32_t y[8]) {
     put(0x94, (x[5] - 1) / 2 << 14);
     put(0x98, (x[6] - 6) << 13);
     for (uint32_t i = 0; i < 8; i++) put(0xA0 + 4 * i, (y[i] - 1) << 14);
-    load();
-    if (vom_check(GIVEN, &pic.n, 21)) die("the setting was refused");
+    clear();
+    if (vom_load_and_check(GIVEN, registers, register_count, &pic.n, VOM_SETTING)) die("the setting was refused");
     for (uint32_t i = 0; i < 16; i++) pic.palette[i] = values[i];
     pic.border_colour = values[16];
     for (uint32_t i = 0; i < 3; i++) pic.pens[i] = values[17 + i];
@@ -109,7 +108,8 @@ void set_sound(void) {
     register_count = 0;
     for (uint32_t i = 0; i < 8; i++) put(0x60 + 4 * i, stereo[(i + 7) % 8] = i < 7 ? i + 1 : 4);
     put(0xC0, 99);
-    load();
+    clear();
+    if (vom_load_and_check_sound(GIVEN, registers, register_count)) die("sound's registers were refused");
 }
 
 void set_plate(void) {
