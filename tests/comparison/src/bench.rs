@@ -24,7 +24,8 @@ pub struct Bench {
     pub calls: BTreeMap<&'static str, Row>,
     /// Number and detail of each refusal, how often met.
     pub refusals: BTreeMap<(u32, u32), u64>,
-    pub sights: BTreeMap<&'static str, u64>,
+    /// What was seen in the inputs of a call, or of any where none is named, how often.
+    pub sights: BTreeMap<&'static str, BTreeMap<&'static str, u64>>,
     /// For the C calls themselves: the slices of each call, and the shapes in which each was handed over.
     pub shapes: BTreeMap<(&'static str, &'static str), BTreeMap<&'static str, u64>>,
 }
@@ -81,7 +82,12 @@ impl Bench {
 
     /// Notes that an input had something in it that should not be missed.
     pub fn see(&mut self, sight: &'static str, there: bool) {
-        *self.sights.entry(sight).or_default() += u64::from(there);
+        self.see_in("", sight, there);
+    }
+
+    /// The same of one call's inputs alone.
+    pub fn see_in(&mut self, call: &'static str, sight: &'static str, there: bool) {
+        *self.sights.entry(call).or_default().entry(sight).or_default() += u64::from(there);
     }
 
     /// Notes in which shape a slice was handed over.

@@ -2,8 +2,8 @@
 
 use crate::bench::Bench;
 use crate::random::Random;
-use crate::{files, large, mixes, pictures, queues, raw_files, raw_pictures, raw_queues, raw_records};
-use crate::{raw_summaries, registers, sounds, summaries, syncs, texts};
+use crate::{files, large, loads, mixes, pictures, queues, raw_files, raw_loads, raw_pictures, raw_queues};
+use crate::{raw_records, raw_summaries, registers, sounds, summaries, syncs, texts};
 
 pub struct Family {
     pub name: &'static str,
@@ -15,9 +15,10 @@ pub struct Family {
 const ONCE: u64 = u64::MAX;
 
 #[rustfmt::skip]
-pub const FAMILIES: [Family; 35] = [
-    Family { name: "load", every: 1, round: registers::load_round },
-    Family { name: "check", every: 1, round: registers::check_round },
+pub const FAMILIES: [Family; 37] = [
+    Family { name: "load_and_check", every: 1, round: loads::load_and_check_round },
+    Family { name: "load_and_check_sound", every: 1, round: loads::load_and_check_sound_round },
+    Family { name: "load_word", every: 1, round: registers::load_word_round },
     Family { name: "check_sound", every: 1, round: registers::check_sound_round },
     Family { name: "frame", every: 1, round: pictures::frame_round },
     Family { name: "raster", every: 1, round: pictures::raster_round },
@@ -41,6 +42,7 @@ pub const FAMILIES: [Family; 35] = [
     Family { name: "queue", every: 10, round: queues::queue_round },
     Family { name: "queue_fresh", every: ONCE, round: queues::every_fresh },
     Family { name: "sync_ask", every: 4, round: syncs::sync_ask_round },
+    Family { name: "raw_load", every: 1, round: raw_loads::raw_load_round },
     Family { name: "raw_record", every: 1, round: raw_records::raw_record_round },
     Family { name: "raw_sound", every: 1, round: raw_records::raw_sound_round },
     Family { name: "raw_picture", every: 1, round: raw_pictures::raw_picture_round },

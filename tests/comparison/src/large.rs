@@ -2,12 +2,11 @@
 
 use crate::bench::Bench;
 use crate::make_kept::{displayed, replacement, Kept};
-use crate::make_record::{Size, FULL, MIDDLING, TALL, WIDE};
+use crate::make_record::{setting_of, Size, FULL, MIDDLING, TALL, WIDE};
 use crate::make_scene::{right_scene, scene};
 use crate::pictures::{compare_frame, compare_marks, compare_raster, compare_raster_words};
 use crate::random::Random;
 use crate::summaries::{compare_replace, compare_summaries};
-use second::setting;
 use second::summaries::ENTRY;
 
 const SIZES: [Size; 4] = [WIDE, TALL, MIDDLING, FULL];
@@ -20,7 +19,7 @@ pub fn large_round(bench: &mut Bench, random: &mut Random) {
     let threshold = (random.next() >> 56) as u8;
     compare_marks(bench, &scene, threshold);
     compare_summaries(bench, random, &scene, threshold);
-    let last = setting::check(&scene.record).map_or(0, |s| s.v - 1);
+    let last = setting_of(&scene.record).map_or(0, |s| s.v - 1);
     for _ in 0..20 {
         let y = random.between(0, last) as u16;
         compare_raster(bench, random, &scene, y);

@@ -1,12 +1,11 @@
 //! Tables of entries kept beside a scene's lists, and the words that are replaced.
 
-use crate::make_record::{small_or_wide, Size};
+use crate::make_record::{setting_of, small_or_wide, Size};
 use crate::make_scene::{right_scene, Scene};
 use crate::random::Random;
 use crate::show;
 use second::record::Record;
 use second::refusal::Refusal;
-use second::setting;
 use second::summaries::{replace, summaries, ENTRY};
 
 /// A scene, and the numbers that are lent for its entries.
@@ -31,7 +30,7 @@ type Make = fn(&mut Random, Size) -> Scene;
 pub fn covered(random: &mut Random, make: Make) -> Scene {
     let size = small_or_wide(random);
     let mut scene = make(random, size);
-    while setting::check(&scene.record).map_or(false, |s| !s.display_on) && !random.one_in(4) {
+    while setting_of(&scene.record).map_or(false, |s| !s.display_on) && !random.one_in(4) {
         scene = make(random, size);
     }
     match random.between(0, 3) {
@@ -44,7 +43,7 @@ pub fn covered(random: &mut Random, make: Make) -> Scene {
 
 /// The displayed rasters; some where the setting is refused.
 pub fn displayed(record: &Record) -> usize {
-    setting::check(record).map_or(4, |s| s.displayed().len())
+    setting_of(record).map_or(4, |s| s.displayed().len())
 }
 
 /// The ends and the middle, at a palette entry's grey and just above, or any.

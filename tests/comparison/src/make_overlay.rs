@@ -2,11 +2,10 @@
 
 use crate::damage::{damage, nudge};
 use crate::handed::answer_length;
-use crate::make_record::{right, small_or_wide};
+use crate::make_record::{right, setting_of, small_or_wide};
 use crate::random::Random;
 use crate::show;
 use second::record::Record;
-use second::setting;
 
 pub struct Overlay {
     pub record: Record,
@@ -24,7 +23,7 @@ pub fn overlay(random: &mut Random) -> Overlay {
         7 => nudge(random, &mut record),
         _ => damage(random, &mut record),
     }
-    let needed = setting::check(&record).map_or(40, |s| s.n as usize);
+    let needed = setting_of(&record).map_or(40, |s| s.n as usize);
     let (cells, camera) = (list_length(random, needed), list_length(random, needed));
     let cells = (0..cells).map(|_| cell(random)).collect();
     let mut camera: Vec<u16> = (0..camera).map(|_| colour(random)).collect();

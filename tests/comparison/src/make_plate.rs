@@ -1,5 +1,6 @@
 //! Plate files: right, and wrong in length or trailer.
 
+use crate::make_list::spoil_list;
 use crate::make_record::{as_words, Size};
 use crate::make_scene::scene;
 use crate::random::Random;
@@ -84,7 +85,9 @@ fn swap_trailer(random: &mut Random, file: &mut [u8]) {
 pub fn picture_file(random: &mut Random, size: Size) -> Vec<u8> {
     let scene = scene(random, size);
     let mut registers = as_words(random, &scene.record);
-    spoil_list(random, &mut registers);
+    if random.one_in(10) {
+        spoil_list(random, &mut registers);
+    }
     let sound_count = random.between(0, 9) as usize;
     let sound = random.words(sound_count);
     let sections = [&registers, &scene.video, &scene.cursor, &sound].map(|s| s.as_slice());
@@ -95,25 +98,6 @@ pub fn picture_file(random: &mut Random, size: Size) -> Vec<u8> {
         spoil_file(random, &mut file);
     }
     file
-}
-
-/// Sometimes the list gets a reserved word, or grows past its limit, or just to it.
-fn spoil_list(random: &mut Random, registers: &mut Vec<u32>) {
-    match random.between(0, 29) {
-        0 => {
-            let place = random.between(0, registers.len() as u32) as usize;
-            registers.insert(place, random.pick(&[0x5000_0000, 0xC4AB_CDEF, 0xFFFF_FFFF]));
-        }
-        1 => fill_front(registers, random.pick(&[1023, 1024])),
-        2 => fill_front(registers, random.pick(&[1025, 1500])),
-        _ => (),
-    }
-}
-
-/// Words without effect before the others: HIR plays no part.
-fn fill_front(registers: &mut Vec<u32>, count: usize) {
-    let missing = count.saturating_sub(registers.len());
-    registers.splice(0..0, vec![0x9C00_0000; missing]);
 }
 
 /// Sometimes more sound, so that the file is just as long as the printer takes, or longer.

@@ -2,9 +2,10 @@
 
 use crate::random::Random;
 use second::address::*;
+use second::load::load_and_check;
 use second::needed::is_needed;
 use second::record::Record;
-use second::setting;
+use second::setting::{self, Setting};
 
 /// How large a frame is wanted: a fixed last pair, a fixed last raster, or neither.
 #[derive(Clone, Copy)]
@@ -60,6 +61,11 @@ pub fn ground(random: &mut Random) -> Record {
     record
 }
 
+/// The setting of a record as it stands, if it is accepted.
+pub fn setting_of(record: &Record) -> Option<Setting> {
+    load_and_check(record, &[]).ok().map(|(_, setting)| setting)
+}
+
 /// A record that no rule of a setting refuses.
 pub fn right(random: &mut Random, size: Size) -> Record {
     let mut record = ground(random);
@@ -73,7 +79,7 @@ pub fn right(random: &mut Random, size: Size) -> Record {
     }
     put_cursor(random, &mut record);
     put_colours(random, &mut record);
-    assert!(setting::check(&record).is_ok(), "a record made to be right is refused: {record:?}");
+    assert!(setting_of(&record).is_some(), "a record made to be right is refused: {record:?}");
     record
 }
 

@@ -1,12 +1,11 @@
 //! A record with its video and cursor words, right or spoiled.
 
 use crate::damage::{damage, nudge};
-use crate::make_record::{right, Size};
+use crate::make_record::{right, setting_of, Size};
 use crate::random::Random;
 use crate::show;
 use second::grey::grey;
 use second::record::Record;
-use second::setting;
 
 #[derive(Clone)]
 pub struct Scene {
@@ -40,7 +39,7 @@ pub fn scene(random: &mut Random, size: Size) -> Scene {
 
 /// As many words as the setting asks for, if it is accepted.
 fn fill(random: &mut Random, scene: &mut Scene) {
-    if let Ok(s) = setting::check(&scene.record) {
+    if let Some(s) = setting_of(&scene.record) {
         scene.video = random.words(s.video_words() as usize);
         scene.cursor = cursor_words(random, s.cursor_words() as usize);
     }

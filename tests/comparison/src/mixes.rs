@@ -5,13 +5,13 @@ use crate::handed::{judge, Given, Slice};
 use crate::judged::Judged;
 use crate::lent::{lent_length, Lent};
 use crate::make_overlay::{overlay, Overlay};
-use crate::make_record::small_or_wide;
+use crate::make_record::{setting_of, small_or_wide};
 use crate::make_scene::right_scene;
 use crate::ours;
 use crate::random::Random;
 use second::cell::{code, shown};
 use second::refusal::Refusal;
-use second::{mixing, raster, setting};
+use second::{mixing, raster};
 use vombelishi::calls::vom_mix;
 
 pub fn mix_round(bench: &mut Bench, random: &mut Random) {
@@ -24,7 +24,7 @@ pub fn mix_round(bench: &mut Bench, random: &mut Random) {
 fn painted(random: &mut Random) -> Overlay {
     let size = small_or_wide(random);
     let scene = right_scene(random, size);
-    let s = setting::check(&scene.record).expect("a right scene is accepted");
+    let s = setting_of(&scene.record).expect("a right scene is accepted");
     let (y, needed) = (random.between(0, s.v - 1) as u16, s.n as usize);
     let cells = raster::raster(&scene.record, &scene.video, &scene.cursor, y, needed).expect("and painted");
     let camera = random.words(needed).into_iter().map(|word| word as u16 & 0xFFF).collect();
@@ -36,7 +36,8 @@ fn compare_mix(bench: &mut Bench, random: &mut Random, overlay: &Overlay) {
     let length = lent_length(random, *needed);
     let expected = mixing::mix(record, cells, camera, length);
     let mut lent: Lent<u16> = Lent::new(random, length);
-    let mut judged = Judged::answer(&expected, ours::record(record).mix(cells, camera, lent.lend()));
+    let told = ours::accepted(record).and_then(|accepted| accepted.mix(cells, camera, lent.lend()));
+    let mut judged = Judged::answer(&expected, told);
     judged.memory("mixed", &lent, expected.as_deref().unwrap_or_default());
     match &expected {
         Ok(mixed) => see_mixed(bench, overlay, mixed),
@@ -69,11 +70,17 @@ fn see_refused(bench: &mut Bench, overlay: &Overlay, refusal: Refusal) {
     let above = |number: &u16| *number > 4095;
     let first = camera.iter().position(above);
     let last = camera.iter().take(*needed).rposition(above);
-    bench.see("4096 refused as the first camera number", refusal.number == 20 && refusal.detail == 0 && camera[0] == 4096);
+    bench.see(
+        "4096 refused as the first camera number",
+        refusal.number == 20 && refusal.detail == 0 && camera[0] == 4096,
+    );
     bench.see("20 for the last of N alone", refusal.number == 20 && first == Some(needed - 1));
     bench.see("20 for the first of several", refusal.number == 20 && first != last);
     bench.see("13 with a camera number above 4095", refusal.number == 13 && last.is_some());
-    bench.see("13 for the cells alone", refusal.number == 13 && cells.len() < *needed && camera.len() >= *needed);
+    bench.see(
+        "13 for the cells alone",
+        refusal.number == 13 && cells.len() < *needed && camera.len() >= *needed,
+    );
 }
 
 #[rustfmt::skip] // a pointer and its length on one line

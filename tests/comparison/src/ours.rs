@@ -9,10 +9,15 @@ use second::refusal::Refusal;
 use second::setting::Setting;
 use second::summaries::ENTRY;
 use vombelishi::plate::Places;
-use vombelishi::{Apart, Entry};
+use vombelishi::{Accepted, Apart, Entry};
 
 pub fn record(record: &Record) -> vombelishi::Record {
     vombelishi::Record { values: record.values, written: record.written.map(u8::from) }
+}
+
+/// The record as it stands, accepted by the library or refused: pictures are asked of an accepted one alone.
+pub fn accepted(record: &Record) -> Result<Accepted, vombelishi::Refusal> {
+    Ok(self::record(record).load_and_check(&[])?)
 }
 
 pub fn refusal(Refusal { number, detail }: Refusal) -> vombelishi::Refusal {

@@ -3,13 +3,13 @@
 use crate::bench::Bench;
 use crate::judged::Judged;
 use crate::lent::{lent_length, Lent};
-use crate::make_record::{ground, small_or_wide};
+use crate::make_record::{ground, setting_of, small_or_wide};
 use crate::make_scene::{scene, Scene};
 use crate::ours;
 use crate::random::Random;
 use crate::show;
 use second::cell::code;
-use second::setting::{self, Setting};
+use second::setting::Setting;
 use second::{colour, frame, grey, marks, pin, raster, raster_words};
 
 pub fn frame_round(bench: &mut Bench, random: &mut Random) {
@@ -20,14 +20,14 @@ pub fn frame_round(bench: &mut Bench, random: &mut Random) {
 
 pub fn compare_frame(bench: &mut Bench, random: &mut Random, scene: &Scene) {
     let Scene { record, video, cursor } = scene;
-    let needed = setting::check(record).map_or(500, |s| (s.n * s.v) as usize);
+    let needed = setting_of(record).map_or(500, |s| (s.n * s.v) as usize);
     let length = lent_length(random, needed);
     let expected = frame::frame(record, video, cursor, length);
     let mut lent: Lent<u16> = Lent::new(random, length);
-    let told = ours::record(record).frame(video, cursor, lent.lend());
+    let told = ours::accepted(record).and_then(|accepted| accepted.frame(video, cursor, lent.lend()));
     let mut judged = Judged::answer(&expected, told);
     judged.memory("cells", &lent, expected.as_deref().unwrap_or_default());
-    if let (Ok(s), Ok(cells)) = (setting::check(record), &expected) {
+    if let (Some(s), Ok(cells)) = (setting_of(record), &expected) {
         see_setting(bench, &s);
         see_cells(bench, &s, cells);
     }
@@ -68,7 +68,7 @@ fn see_cells(bench: &mut Bench, s: &Setting, cells: &[u16]) {
 pub fn raster_round(bench: &mut Bench, random: &mut Random) {
     let size = small_or_wide(random);
     let scene = scene(random, size);
-    let rasters = setting::check(&scene.record).map_or(3, |s| s.v) as u16;
+    let rasters = setting_of(&scene.record).map_or(3, |s| s.v) as u16;
     for y in 0..rasters {
         compare_raster(bench, random, &scene, y);
         compare_raster_words(bench, random, &scene, y);
@@ -81,11 +81,11 @@ pub fn raster_round(bench: &mut Bench, random: &mut Random) {
 
 pub fn compare_raster(bench: &mut Bench, random: &mut Random, scene: &Scene, y: u16) {
     let Scene { record, video, cursor } = scene;
-    let needed = setting::check(record).map_or(50, |s| s.n as usize);
+    let needed = setting_of(record).map_or(50, |s| s.n as usize);
     let length = lent_length(random, needed);
     let expected = raster::raster(record, video, cursor, y, length);
     let mut lent: Lent<u16> = Lent::new(random, length);
-    let told = ours::record(record).raster(video, cursor, y, lent.lend());
+    let told = ours::accepted(record).and_then(|accepted| accepted.raster(video, cursor, y, lent.lend()));
     let mut judged = Judged::answer(&expected, told);
     judged.memory("cells", &lent, expected.as_deref().unwrap_or_default());
     bench.count("raster", judged, || format!("{}\nraster {y}\nbuffer of {length} cells", scene.show()));
@@ -96,12 +96,14 @@ pub fn compare_raster_words(bench: &mut Bench, random: &mut Random, scene: &Scen
     let Scene { record, video, .. } = scene;
     let expected = raster_words::raster_words(record, video, y);
     let mut lent: Lent<u64> = Lent::new(random, 2);
-    let given = ours::record(record);
-    let mut judged = Judged::answer(&expected, given.raster_words_into(video, y, lent.lend()));
+    let accepted = ours::accepted(record);
+    let told = accepted.as_ref().map_err(|refusal| *refusal);
+    let mut judged =
+        Judged::answer(&expected, told.and_then(|given| given.raster_words_into(video, y, lent.lend())));
     let place = |words: &[u32]| words.as_ptr_range();
     judged.returned(
         expected.clone().map(|range| place(&video[range])),
-        given.raster_words(video, y).map(place),
+        told.and_then(|given| given.raster_words(video, y)).map(place),
     );
     let stretch: Vec<u64> =
         expected.iter().flat_map(|range| [range.start, range.len()]).map(|n| n as u64).collect();
@@ -125,7 +127,8 @@ pub fn marks_round(bench: &mut Bench, random: &mut Random) {
 pub fn compare_marks(bench: &mut Bench, scene: &Scene, threshold: u8) {
     let Scene { record, video, cursor } = scene;
     let expected = marks::marks(record, video, cursor, threshold);
-    let judged = Judged::returning(expected, ours::record(record).marks(video, cursor, threshold));
+    let told = ours::accepted(record).and_then(|accepted| accepted.marks(video, cursor, threshold));
+    let judged = Judged::returning(expected, told);
     bench.see("marks counted, not none", expected.map_or(false, |count| count > 0));
     bench.count("marks", judged, || format!("{}\nthreshold {threshold}", scene.show()));
 }

@@ -2,18 +2,18 @@
 
 use crate::bench::Bench;
 use crate::handed::{judge, Given, Slice};
-use crate::make_record::small_or_wide;
+use crate::make_record::{setting_of, small_or_wide};
 use crate::make_scene::{scene, Scene};
 use crate::random::Random;
 use second::refusal::{refuse_if, SHORT};
-use second::setting::{self, Setting};
+use second::setting::Setting;
 use second::{frame, marks, raster, raster_words};
 use vombelishi::calls::*;
 
 pub fn raw_picture_round(bench: &mut Bench, random: &mut Random) {
     let size = small_or_wide(random);
     let scene = scene(random, size);
-    let rasters = setting::check(&scene.record).map_or(3, |s| s.v);
+    let rasters = setting_of(&scene.record).map_or(3, |s| s.v);
     let y = if random.one_in(8) { rasters + random.gap() } else { random.between(0, rasters - 1) };
     raw_frame(bench, random, &scene);
     raw_raster(bench, random, &scene, y as u16);
@@ -31,7 +31,7 @@ pub struct Handover {
 
 impl Handover {
     pub fn new(random: &mut Random, scene: &Scene) -> Handover {
-        let setting = setting::check(&scene.record).ok();
+        let setting = setting_of(&scene.record);
         let video_words = setting.as_ref().map(|s| s.video_words() as usize);
         let cursor_words = setting.as_ref().map(|s| s.cursor_words() as usize);
         Handover {

@@ -1,34 +1,22 @@
-//! The C calls themselves, of a record alone: load and load_word, the two checks, colour, sound, what a sync asks for; and
-//! of single numbers.
+//! The C calls themselves, of a record that is only read: colour, what a sync asks for, the check for sound, sound; and of
+//! single numbers.
 
 use crate::bench::Bench;
-use crate::damage::{damage, damage_sound};
+use crate::damage::damage_sound;
 use crate::handed::{judge, Given, Slice};
 use crate::judged::Judged;
 use crate::make_queue::kind;
-use crate::make_record::{ground, right, right_for_sound, word, SMALL};
+use crate::make_record::{ground, right_for_sound};
 use crate::random::Random;
-use crate::registers::list;
 use crate::syncs::{asked, rasters, sync_record};
-use second::address::address_of;
-use second::record::{load_word, Record};
-use second::refusal::{refusal, refuse_if, Refusal, SHORT, SOUND};
-use second::{colour, grey, load, pin, setting, sound, sound_judge};
+use second::record::Record;
+use second::refusal::{refusal, refuse_if, SHORT, SOUND};
+use second::{colour, grey, pin, sound, sound_judge};
 use vombelishi::calls::*;
 
 pub fn raw_record_round(bench: &mut Bench, random: &mut Random) {
     let record = ground(random);
-    let words = list(random);
-    raw_load(bench, random, &record, &words);
-    let (slot, data) = (random.between(0, 63), random.word());
-    let one = word(random, slot, data);
-    raw_load_word(bench, random, &record, one);
     raw_colour(bench, random, &record);
-    let mut record = right(random, SMALL);
-    if random.one_in(2) {
-        damage(random, &mut record);
-    }
-    raw_check(bench, random, &record);
     raw_sync_ask(bench, random);
 }
 
@@ -41,71 +29,6 @@ pub fn raw_sound_round(bench: &mut Bench, random: &mut Random) {
     raw_sound(bench, random, &record);
     raw_pair(bench, random);
     raw_numbers(bench, random);
-}
-
-/// The words' registers hold their data and a 1; every other element is as it was.
-fn should_be_loaded(given: &mut Given, loaded: &Result<Record, Refusal>, words: &[u32]) {
-    if let Ok(record) = loaded {
-        let mut written = given.written.given().to_vec();
-        for word in words {
-            written[address_of(*word) as usize / 4] = 1;
-        }
-        given.values.should_hold(&record.values);
-        given.written.should_hold(&written);
-    }
-}
-
-fn raw_load(bench: &mut Bench, random: &mut Random, record: &Record, words: &[u32]) {
-    let mut given = Given::new(random, record);
-    let mut words = Slice::list(random, "words", words, None);
-    let expected = given.record().and_then(|record| load::load(&record, words.given()));
-    should_be_loaded(&mut given, &expected, words.given());
-    let Given { values, written } = &mut given;
-    // SAFETY: each pointer is that of as many elements as are told, and what is written overlaps nothing. So below.
-    let told = unsafe {
-        vom_load(
-            values.pointer(),
-            values.len(),
-            written.pointer(),
-            written.len(),
-            words.pointer(),
-            words.len(),
-        )
-    };
-    judge(bench, "vom_load", &expected, told, &[&given, &words], "");
-}
-
-fn raw_load_word(bench: &mut Bench, random: &mut Random, record: &Record, word: u32) {
-    let mut given = Given::new(random, record);
-    let expected = given.record().and_then(|record| load_word(&record, word));
-    should_be_loaded(&mut given, &expected, &[word]);
-    let Given { values, written } = &mut given;
-    let told =
-        unsafe { vom_load_word(values.pointer(), values.len(), written.pointer(), written.len(), word) };
-    judge(bench, "vom_load_word", &expected, told, &[&given], &format!("word {word:08x}"));
-}
-
-fn raw_check(bench: &mut Bench, random: &mut Random, record: &Record) {
-    let mut given = Given::new(random, record);
-    let mut numbers = Slice::answer(random, "setting", 21);
-    let room = refuse_if(numbers.len() < 21, SHORT);
-    let expected =
-        given.record().and_then(|record| setting::check(&record)).and_then(|s| room.map(|()| s.numbers()));
-    if let Ok(right) = &expected {
-        numbers.should_hold(right);
-    }
-    let Given { values, written } = &mut given;
-    let told = unsafe {
-        vom_check(
-            values.pointer(),
-            values.len(),
-            written.pointer(),
-            written.len(),
-            numbers.pointer(),
-            numbers.len(),
-        )
-    };
-    judge(bench, "vom_check", &expected, told, &[&given, &numbers], "");
 }
 
 /// Any depth and any pixel: what is no depth shows the entry, which four bits of the pixel pick.
@@ -125,8 +48,16 @@ fn raw_colour(bench: &mut Bench, random: &mut Random, record: &Record) {
     let Given { values, written } = &mut given;
     let (v, w) = ((values.pointer(), values.len()), (written.pointer(), written.len()));
     let places = (shown.pointer(), supremacy.pointer());
+    // SAFETY: each pointer is that of as many elements as are told, and what is written overlaps nothing. So below.
     let told = unsafe { vom_colour(v.0, v.1, w.0, w.1, depth as u8, pixel as u8, places.0, places.1) };
-    judge(bench, "vom_colour", &expected, told, &[&given, &shown, &supremacy], &format!("depth {depth}\npixel {pixel}"));
+    judge(
+        bench,
+        "vom_colour",
+        &expected,
+        told,
+        &[&given, &shown, &supremacy],
+        &format!("depth {depth}\npixel {pixel}"),
+    );
 }
 
 fn raw_sync_ask(bench: &mut Bench, random: &mut Random) {

@@ -4,11 +4,12 @@ use crate::bench::Bench;
 use crate::judged::Judged;
 use crate::lent::{lent_length, Lent};
 use crate::make_kept::{covered, displayed, fresh, replacement, threshold, Kept, Replacement};
+use crate::make_record::setting_of;
 use crate::make_scene::{scene, Scene};
 use crate::ours;
 use crate::random::Random;
 use second::refusal::{Refusal, WORD_COUNT, WORD_INDEX};
-use second::setting::{self, Setting};
+use second::setting::Setting;
 use second::summaries::{summaries, ENTRY};
 use vombelishi::Entry;
 
@@ -26,14 +27,16 @@ pub fn compare_summaries(bench: &mut Bench, random: &mut Random, scene: &Scene, 
     let mut lent: Lent<Entry> = Lent::new(random, length);
     let mut numbers = ours::numbers(lent.given());
     let expected = summaries(record, video, cursor, threshold, &mut numbers);
-    let given = ours::record(record);
-    let mut judged = Judged::answer(&expected, given.summaries_into(video, cursor, threshold, lent.lend()));
+    let accepted = ours::accepted(record);
+    let told = accepted.as_ref().map_err(|refusal| *refusal);
+    let into = told.and_then(|given| given.summaries_into(video, cursor, threshold, lent.lend()));
+    let mut judged = Judged::answer(&expected, into);
     judged.memory("entries", &lent, &ours::entries(&numbers));
     let made = fresh(scene, threshold).map(|numbers| ours::entries(&numbers));
-    if let (Ok(s), Ok(entries)) = (setting::check(record), &made) {
+    if let (Some(s), Ok(entries)) = (setting_of(record), &made) {
         see_entries(bench, &s, threshold, entries);
     }
-    judged.returned(made, given.summaries(video, cursor, threshold));
+    judged.returned(made, told.and_then(|given| given.summaries(video, cursor, threshold)));
     bench.count("summaries", judged, || {
         format!("{}\nthreshold {threshold}\nroom for {length} entries", scene.show())
     });
@@ -75,8 +78,9 @@ pub fn compare_replace(bench: &mut Bench, random: &mut Random, kept: &mut Kept, 
     let mut entries = Lent::holding(random, &ours::entries(&before.numbers));
     let expected = kept.replace(record, replacement);
     let Replacement { index, word } = replacement;
-    let told =
-        ours::record(record).replace(video.lend(), cursor, before.threshold, index, word, entries.lend());
+    let told = ours::accepted(record).and_then(|accepted| {
+        accepted.replace(video.lend(), cursor, before.threshold, index, word, entries.lend())
+    });
     let mut judged = Judged::answer(&expected, told);
     judged.memory("video", &video, &kept.scene.video);
     judged.memory("entries", &entries, &ours::entries(&kept.numbers));
@@ -131,7 +135,7 @@ pub fn series(bench: &mut Bench, random: &mut Random, compare: Compare) {
 /// What is kept is what the library makes of the list as it stands.
 fn compare_fresh(bench: &mut Bench, kept: &Kept) {
     let Scene { record, video, cursor } = &kept.scene;
-    let told = ours::record(record).summaries(video, cursor, kept.threshold);
+    let told = ours::accepted(record).and_then(|accepted| accepted.summaries(video, cursor, kept.threshold));
     let judged = Judged::returning(Ok(ours::entries(&kept.numbers)), told);
     bench.count("summaries", judged, || kept.show());
 }

@@ -3,12 +3,12 @@
 use crate::bench::Bench;
 use crate::damage::{damage, nudge};
 use crate::judged::Judged;
+use crate::make_list::with_words;
 use crate::make_queue::kind;
 use crate::make_record::{as_words, ground, right, SMALL, TALL};
 use crate::ours;
 use crate::random::Random;
 use crate::show;
-use second::load::load;
 use second::queue::Queue;
 use second::record::Record;
 use second::setting;
@@ -29,7 +29,7 @@ pub fn sync_record(random: &mut Random) -> Record {
         0 => return ground(random),
         1 => damage(random, &mut record),
         2 => nudge(random, &mut record),
-        3 => return load(&Record::fresh(), &as_words(random, &record)).expect("only named addresses"),
+        3 => return with_words(&Record::fresh(), &as_words(random, &record)),
         _ => (),
     }
     record
