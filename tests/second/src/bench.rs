@@ -31,11 +31,11 @@ pub struct Bench<'a> {
 }
 
 impl<'a> Bench<'a> {
-    /// For a plate whose setting and words have been checked.
-    pub fn new(parts: &'a Parts, setting: &'a Setting) -> Bench<'a> {
+    /// For a plate whose word counts have been checked.
+    pub fn new(parts: &'a Parts) -> Bench<'a> {
         Bench {
             record: &parts.record,
-            setting,
+            setting: &parts.setting,
             video: &parts.video,
             own: bytes_of(&parts.video),
             queue: Queue::fresh(VIDEO),

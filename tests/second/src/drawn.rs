@@ -3,7 +3,7 @@
 use crate::frame::frame;
 use crate::parts::parts;
 use crate::refusal::Refusal;
-use crate::setting::{self, Setting};
+use crate::setting::Setting;
 
 pub use crate::parts::MOST_INPUT;
 
@@ -11,5 +11,5 @@ pub use crate::parts::MOST_INPUT;
 pub fn drawn(input: &[u8]) -> Result<(Setting, Vec<u16>), Refusal> {
     let p = parts(input)?;
     let cells = frame(&p.record, &p.video, &p.cursor, usize::MAX)?;
-    Ok((setting::check(&p.record)?, cells))
+    Ok((p.setting, cells))
 }

@@ -34,6 +34,10 @@ pub mod summaries;
 pub mod text;
 
 #[cfg(test)]
+mod accept_sound_tests;
+#[cfg(test)]
+mod accept_tests;
+#[cfg(test)]
 mod camera_tests;
 #[cfg(test)]
 mod colour_tests;
@@ -49,6 +53,8 @@ mod mixing_tests;
 mod overlay_tests;
 #[cfg(test)]
 mod paper_tests;
+#[cfg(test)]
+mod parts_tests;
 #[cfg(test)]
 mod queue_tests;
 #[cfg(test)]

@@ -3,7 +3,6 @@
 use crate::bench::Bench;
 use crate::parts::parts;
 use crate::refusal::{or_refused, Refusal};
-use crate::setting;
 
 pub fn live(plate: &[u8]) -> String {
     or_refused(one_frame(plate))
@@ -12,11 +11,10 @@ pub fn live(plate: &[u8]) -> String {
 /// A line for each raster that asked or loaded, then the frame's.
 fn one_frame(plate: &[u8]) -> Result<String, Refusal> {
     let p = parts(plate)?;
-    let s = setting::check(&p.record)?;
-    s.judge_words(&p.video, &p.cursor)?;
-    let mut bench = Bench::new(&p, &s);
+    p.setting.judge_words(&p.video, &p.cursor)?;
+    let mut bench = Bench::new(&p);
     let mut lines = String::new();
-    for y in 0..s.v {
+    for y in 0..p.setting.v {
         let c = bench.raster(y);
         if c.asked > 0 || c.loaded > 0 {
             lines += &format!("raster {y} asked {} loaded {} read {}\n", c.asked, c.loaded, c.read);

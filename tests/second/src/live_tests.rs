@@ -3,10 +3,11 @@
 use crate::address::*;
 use crate::bench::{Bench, Counts};
 use crate::live::live;
-use crate::paper_tests::{small, small_plate, small_registers, value, word};
+use crate::load::load_and_check;
+use crate::paper_tests::{small_plate, small_registers, value, word};
 use crate::parts::Parts;
 use crate::plate;
-use crate::setting;
+use crate::record::Record;
 use crate::text::text;
 
 /// The small plate at depth 8, `words` words wide, `rasters` high, with a request point; its words all differ.
@@ -69,9 +70,9 @@ fn display_off_is_one_line() {
 
 #[test]
 fn bytes_that_are_not_the_frames_own() {
-    let parts = Parts { record: small(), video: vec![], cursor: vec![] };
-    let s = setting::check(&parts.record).unwrap();
-    let mut bench = Bench::new(&parts, &s);
+    let (record, setting) = load_and_check(&Record::fresh(), &small_registers()).unwrap();
+    let parts = Parts { record, setting, video: vec![], cursor: vec![] };
+    let mut bench = Bench::new(&parts);
     assert_eq!(bench.raster(3), Counts { asked: 12, loaded: 9, read: 4 });
     assert_eq!((bench.differs_at, bench.filler, bench.read), (Some(0), 9, 4));
 }

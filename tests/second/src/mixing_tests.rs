@@ -2,11 +2,10 @@
 
 use crate::address::*;
 use crate::mixing::mix;
-use crate::paper_tests::{small, value, word, SMALL_VIDEO};
+use crate::paper_tests::{judged, small, value, word, SMALL_VIDEO};
 use crate::raster::raster;
 use crate::record::Record;
 use crate::refusal::{refusal, refusal_at};
-use crate::setting;
 use crate::summaries_tests::{refused_settings, two_rasters, with_cursor};
 
 /// The small plate's line length.
@@ -152,7 +151,7 @@ fn n_is_the_settings_own() {
     let narrow = registers.fold(small().with_word(word(CONTROL, 0xF)), Record::with_word);
     let wide = small().with_word(value(HCR, 1023));
     for (record, n) in [(narrow, 10), (small().with_word(value(HCR, 16)), 34), (wide, 2048)] {
-        assert_eq!(setting::check(&record).unwrap().n as usize, n);
+        assert_eq!(judged(&record).unwrap().n as usize, n);
         assert_eq!(mix(&record, &vec![0xDFFF; n], &vec![6; n], n), Ok(vec![6; n]));
         assert_eq!(mix(&record, &vec![0; n - 1], &vec![0; n], n), Err(refusal(13)));
         let at = |index| mix(&record, &vec![0; n], &camera_with(n + 1, &[(index, 4096)]), n);

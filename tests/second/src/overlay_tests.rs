@@ -6,12 +6,11 @@ use crate::history_tests::next;
 use crate::live_tests::refused_plates;
 use crate::mixing::mix;
 use crate::overlay::{overlay, NotOverlaid};
-use crate::paper_tests::{small, small_plate, word, SMALL_VIDEO};
+use crate::paper_tests::{judged, small, small_plate, word, SMALL_VIDEO};
 use crate::ppm::ppm;
 use crate::raster::raster;
 use crate::record::Record;
 use crate::refusal::{refusal, refusal_at};
-use crate::setting;
 use crate::summaries_tests::{two_rasters, with_cursor};
 use crate::sync_tests::plate_of;
 
@@ -131,7 +130,7 @@ fn raster_by_raster_as_mixed() {
     let shapes = [(0x3, [27, 18, 27]), (0x7, [15, 10, 15]), (0xB, [15, 10, 13]), (0xF, [15, 8, 11])];
     for (control, ends) in shapes.into_iter().cycle().take(40) {
         let record = any_colours(with_cursor(two_rasters(control, ends), 3, 5), &mut seed);
-        let s = setting::check(&record).unwrap();
+        let s = judged(&record).unwrap();
         let video = any_words(s.video_words(), &mut seed);
         let cursor = any_words(s.cursor_words(), &mut seed);
         let colours: Vec<u16> = (0..s.n * s.v).map(|_| next(&mut seed) as u16 % 4096).collect();

@@ -5,7 +5,7 @@ use crate::cell::{code, shown};
 use crate::colour::{display, Shown};
 use crate::frame::frame;
 use crate::grey::grey;
-use crate::load::load;
+use crate::load::load_and_check;
 use crate::plate;
 use crate::raster::raster;
 use crate::record::{load_word, Record};
@@ -35,11 +35,21 @@ pub fn small_registers() -> Vec<u32> {
 pub const SMALL_VIDEO: [u32; 1] = [0x7654_3210];
 
 pub fn small() -> Record {
-    load(&Record::fresh(), &small_registers()).unwrap()
+    load_and_check(&Record::fresh(), &small_registers()).unwrap().0
 }
 
 fn small_with(address: u32, v: u32) -> Result<Setting, Refusal> {
-    setting::check(&small().with_word(value(address, v)))
+    judged(&small().with_word(value(address, v)))
+}
+
+/// What the one call says of a record as it stands; the record itself comes back either way.
+pub fn judged(record: &Record) -> Result<Setting, Refusal> {
+    let (same, answer) = match load_and_check(record, &[]) {
+        Ok((accepted, setting)) => (accepted, Ok(setting)),
+        Err(refused) => (refused.record, Err(refused.refusal)),
+    };
+    assert_eq!(same, *record);
+    answer
 }
 
 fn one(word: u32) -> Record {
@@ -138,7 +148,7 @@ fn case_12_display_end() {
 #[test]
 fn case_13_display_off() {
     let off = small().with_word(value(VDER, 2));
-    assert!(!setting::check(&off).unwrap().display_on);
+    assert!(!judged(&off).unwrap().display_on);
     assert_eq!(frame(&off, &SMALL_VIDEO, &[], 1000), Err(refusal(11)));
     assert!(frame(&off, &[], &[], 1000).is_ok());
 }

@@ -2,7 +2,6 @@
 
 use crate::parts::parts;
 use crate::refusal::{or_refused, Refusal};
-use crate::setting;
 use crate::summaries::{summaries, ENTRY};
 
 pub fn rasters(plate: &[u8], threshold: u8) -> String {
@@ -12,12 +11,11 @@ pub fn rasters(plate: &[u8], threshold: u8) -> String {
 /// A line for each displayed raster, then the sum of their counts.
 fn displayed_rasters(plate: &[u8], threshold: u8) -> Result<String, Refusal> {
     let p = parts(plate)?;
-    let s = setting::check(&p.record)?;
-    let mut numbers = vec![0; ENTRY * s.displayed().len()];
+    let mut numbers = vec![0; ENTRY * p.setting.displayed().len()];
     summaries(&p.record, &p.video, &p.cursor, threshold, &mut numbers)?;
     let mut lines = String::new();
     let mut total = 0;
-    for (y, entry) in s.displayed().zip(numbers.chunks(ENTRY)) {
+    for (y, entry) in p.setting.displayed().zip(numbers.chunks(ENTRY)) {
         lines += &format!("raster {y} marks {} least {} greatest {}\n", entry[0], entry[1], entry[2]);
         total += u32::from(entry[0]);
     }

@@ -85,7 +85,7 @@ pub fn read(record: &Record) -> Setting {
 }
 
 /// The setting a record gives, or the first of the refusals 3 to 6, 19, 7 to 9 in this order.
-pub fn check(record: &Record) -> Result<Setting, Refusal> {
+pub(crate) fn check(record: &Record) -> Result<Setting, Refusal> {
     let s = read(record);
     needed::judge(record, &s)?;
     refuse_if(record.bits(CONTROL, 15, 14) != 0, TEST_MODE)?;

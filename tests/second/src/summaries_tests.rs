@@ -3,10 +3,9 @@
 use crate::address::*;
 use crate::history_tests::next;
 use crate::marks::marks;
-use crate::paper_tests::{small, value, word, SMALL_VIDEO};
+use crate::paper_tests::{judged, small, value, word, SMALL_VIDEO};
 use crate::record::Record;
 use crate::refusal::{refusal, refusal_at, Refusal};
-use crate::setting;
 use crate::summaries::{replace, summaries};
 
 const GARBAGE: u16 = 7777;
@@ -44,7 +43,7 @@ pub fn with_cursor(record: Record, vcs: u32, vce: u32) -> Record {
 
 /// The entries, with one number lent beyond them that must stay.
 fn made(record: &Record, video: &[u32], cursor: &[u32], threshold: u8) -> Vec<u16> {
-    let s = setting::check(record).unwrap();
+    let s = judged(record).unwrap();
     let mut numbers = vec![GARBAGE; 3 * (s.vde - s.vds) as usize + 1];
     summaries(record, video, cursor, threshold, &mut numbers).unwrap();
     assert_eq!(numbers.pop(), Some(GARBAGE));
@@ -234,7 +233,7 @@ fn a_fresh_table_after_any_replacements() {
     let mut seed = 2;
     let plain = [two_by_two(), two_rasters(0x3, [171, 162, 171]), two_rasters(0xF, [15, 8, 11])];
     for record in plain.into_iter().map(|record| with_cursor(record, 4, 5)) {
-        let mut video = vec![0; setting::check(&record).unwrap().video_words() as usize];
+        let mut video = vec![0; judged(&record).unwrap().video_words() as usize];
         let cursor = [next(&mut seed), next(&mut seed)];
         let threshold = next(&mut seed) as u8 % 90;
         let mut numbers = made(&record, &video, &cursor, threshold);

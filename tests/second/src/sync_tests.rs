@@ -6,7 +6,7 @@ use crate::history_tests::next;
 use crate::live::live;
 use crate::marks::marks;
 use crate::needed;
-use crate::paper_tests::{small, small_plate, small_registers, value, word, SMALL_VIDEO};
+use crate::paper_tests::{judged, small, small_plate, small_registers, value, word, SMALL_VIDEO};
 use crate::plate;
 use crate::raster::raster;
 use crate::raster_words::raster_words;
@@ -23,7 +23,7 @@ use crate::text::text;
 const ENDS: [(u32, u32, u32); 4] = [(8, 6, 8), (12, 8, 10), (16, 12, 14), (24, 18, 20)];
 
 /// Depth 4, 24 MHz.
-const CONTROL_DATA: u32 = 0xB;
+pub const CONTROL_DATA: u32 = 0xB;
 
 /// The small plate made wide, so that HS may be up to 22 at every depth: N 70, border from 23 up to 69, 32 display positions.
 fn wide(control: u32, hs: u32) -> Record {
@@ -33,18 +33,18 @@ fn wide(control: u32, hs: u32) -> Record {
 }
 
 /// The same with a cursor on raster 3.
-fn wide_with_cursor(control: u32, hs: u32) -> Record {
+pub fn wide_with_cursor(control: u32, hs: u32) -> Record {
     cursor_alone(wide(control, hs), 3, 4)
 }
 
-fn unwritten(mut record: Record, address: u32) -> Record {
+pub fn unwritten(mut record: Record, address: u32) -> Record {
     record.written[(address / 4) as usize] = false;
     record
 }
 
 /// What the checks say of it, 0 for accepted; what is accepted is what the data says.
 fn answer(record: &Record) -> Refusal {
-    match setting::check(record) {
+    match judged(record) {
         Ok(s) => {
             assert_eq!(s, setting::read(record));
             refusal(0)
@@ -57,8 +57,8 @@ fn answer(record: &Record) -> Refusal {
 fn both_ends_at_each_rate() {
     for (bits, (rate, short, enough)) in (8..).zip(ENDS) {
         assert_eq!(pixel_rate(&wide_with_cursor(bits, short)), rate);
-        assert_eq!(setting::check(&wide_with_cursor(bits, short)), Err(refusal(19)));
-        let s = setting::check(&wide_with_cursor(bits, enough)).unwrap();
+        assert_eq!(judged(&wide_with_cursor(bits, short)), Err(refusal(19)));
+        let s = judged(&wide_with_cursor(bits, enough)).unwrap();
         assert_eq!((s.hs, s.cursor_on), (enough, true));
         for hs in (2..=22).step_by(2) {
             let number = if hs < enough { 19 } else { 0 };
@@ -74,7 +74,7 @@ fn the_longest_sync_of_a_setting() {
     for bits in 12..16 {
         let registers = (0..6).map(|i| value(HCR + 4 * i, horizontal[i as usize]));
         let record = registers.fold(wide_with_cursor(bits, 2), Record::with_word);
-        assert_eq!(setting::check(&record).unwrap().hs, 2042);
+        assert_eq!(judged(&record).unwrap().hs, 2042);
     }
 }
 
@@ -134,10 +134,10 @@ fn a_cursor_that_shows_nowhere_is_on() {
 }
 
 /// A setting's refusals in their order.
-const ORDER: [u32; 8] = [3, 4, 5, 6, 19, 7, 8, 9];
+pub const ORDER: [u32; 8] = [3, 4, 5, 6, 19, 7, 8, 9];
 
 /// The record spoilt so that this number applies.
-fn spoilt(record: Record, number: u32) -> Record {
+pub fn spoilt(record: Record, number: u32) -> Record {
     let control = record.data(CONTROL);
     match number {
         3 => unwritten(record, cursor_entry(3)),
@@ -181,11 +181,15 @@ fn before_the_word_counts_and_what_follows_them() {
     }
 }
 
+/// A word for each written register of a record, in the order of their addresses.
+pub fn registers_of(record: &Record) -> Vec<u32> {
+    let written = (0..=0xFC).step_by(4).filter(|address| record.is_written(*address));
+    written.map(|address| word(address, record.data(address))).collect()
+}
+
 /// The plate of a record, with these words.
 pub fn plate_of(record: &Record, video: &[u32], cursor: &[u32]) -> Vec<u8> {
-    let written = (0..=0xFC).step_by(4).filter(|address| record.is_written(*address));
-    let registers: Vec<u32> = written.map(|address| word(address, record.data(address))).collect();
-    plate::write(&registers, video, cursor, &[], 1000).unwrap()
+    plate::write(&registers_of(record), video, cursor, &[], 1000).unwrap()
 }
 
 #[test]
@@ -257,7 +261,7 @@ fn any_records(start: &Record) -> Vec<Record> {
 }
 
 /// Each of these numbers was answered ten times or more.
-fn all_met(answers: &[Refusal], numbers: &[u32]) {
+pub fn all_met(answers: &[Refusal], numbers: &[u32]) {
     for number in numbers {
         let times = answers.iter().filter(|answer| answer.number == *number).count();
         assert!(times >= 10, "{number}: {times} times");
