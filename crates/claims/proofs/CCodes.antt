@@ -12,7 +12,8 @@ use borrow.Author.Tests.{ltb-true, ltb-false, eqb-true, ne-eqb}
 use Rattle.buffers.specs.Pick.{pick}
 use Rattle.buffers.proofs.Tests.{and-split}
 use Rattle.refusals.specs.Table.{Why, why, Told, given, refused, Row, row, judged, andThen, unlessRefused}
-use Rattle.registers.specs.Load.{leading, loadTable}
+use Rattle.registers.specs.Load.{leading, applied, loadTable}
+use Rattle.registers.specs.Accept.{acceptTable, acceptSoundTable}
 use Rattle.registers.specs.Check.{unwritten, settingTable}
 use Rattle.registers.specs.Setting.{settingOf}
 use Rattle.registers.specs.Sound.{soundUnwritten, soundFault, soundTable}
@@ -164,7 +165,13 @@ mix-fits g cells camera room =
     fits-after (setting-fits g)
     (plain (omega arith) (detailed (omega arith) (λ e. omega (arith, ltb-true (firstTooLarge camera (settingOf g .n .0)) _ e, few-places g)) (λ e. no-rows)))
 
-pub load-fits : (words : List ℕ) → Fits (loadTable words)
+load-fits : (words : List ℕ) → Fits (loadTable words)
 load-fits words =
     detailed (omega arith) (λ e. omega arith)
     (λ e. detailed (omega arith) (λ h. omega (arith, ltb-false 1024 (length words) e, ltb-true (leading words) (length words) h)) (λ h. no-rows))
+
+pub accept-fits : (g : Registers) (words : List ℕ) → Fits (acceptTable g words)
+accept-fits g words = fits-after (load-fits words) (setting-fits (applied g words))
+
+pub accept-sound-fits : (g : Registers) (words : List ℕ) → Fits (acceptSoundTable g words)
+accept-sound-fits g words = fits-after (load-fits words) (sound-fits (applied g words))

@@ -9,12 +9,12 @@ use lib.Seq.{sets}
 use Rattle.buffers.specs.Painted.{painted}
 use Rattle.refusals.specs.Table.{Told, given, Row, judged, unlessRefused}
 use Rattle.registers.specs.Record.{wordTable, wordTold}
-use Rattle.registers.specs.Load.{loadTable, loadTold}
+use Rattle.registers.specs.Load.{applied}
 use Rattle.registers.specs.Setting.{settingOf}
-use Rattle.registers.specs.Check.{settingTable, checkTold}
+use Rattle.registers.specs.Accept.{acceptTable, acceptTold, acceptSoundTable, acceptSoundTold}
 use Rattle.registers.specs.Sound.{soundTable, soundTold}
 use Rattle.registers.specs.declared.record.Registers.{Registers}
-use Rattle.registers.proofs.Told.{load-told, check-told, sound-told}
+use Rattle.registers.proofs.Told.{sound-told}
 use Rattle.queues.specs.Syncs.{syncAsk}
 use Rattle.queues.specs.Steps.{loadTable as queueLoadTable, readTable as queueReadTable}
 use Rattle.queues.specs.declared.Queue.{Queue}
@@ -40,9 +40,10 @@ use Rattle.plates.specs.Write.{writeTable, writeTold}
 use Rattle.outputs.specs.Text.{textOf}
 use Rattle.vombelishi.specs.Code.{storedBy, cellBy, partBy}
 use Rattle.vombelishi.specs.Record.{recordOf, recordTold}
-use Rattle.vombelishi.specs.Load.{valueStored, flagStored, valuesStored, flagsStored, loadCall, loadValuesLeaves, loadWrittenLeaves}
-use Rattle.vombelishi.specs.Load.{wordCall, wordValuesLeaves, wordWrittenLeaves}
-use Rattle.vombelishi.specs.Settings.{numbersOf, settingTold, checkCall, checkSoundCall}
+use Rattle.vombelishi.specs.Load.{valueStored, flagStored, valuesStored, flagsStored, wordCall, wordValuesLeaves, wordWrittenLeaves}
+use Rattle.vombelishi.specs.Load.{acceptedTold, acceptCall, acceptValuesLeaves, acceptWrittenLeaves}
+use Rattle.vombelishi.specs.Load.{acceptSoundCall, soundValuesLeaves, soundWrittenLeaves}
+use Rattle.vombelishi.specs.Settings.{numbersOf, checkSoundCall}
 use Rattle.vombelishi.specs.Pictures.{frameCall, frameCallLeaves, rasterCall, rasterCallLeaves, foundTold, wordsCall, marksCall}
 use Rattle.vombelishi.specs.Pictures.{colourCall, colourPart, supremacyPart, mixCall, mixCallLeaves}
 use Rattle.vombelishi.specs.Summaries.{summariesCall, summariesCallLeaves, replaceCall, videoCallLeaves, replaceCallLeaves}
@@ -56,21 +57,22 @@ use Rattle.plates.proofs.Told.{read-told, copy-told, write-told}
 use Rattle.claims.specs.Calls.{Every, numbers, settingNumbers, ByTable, Kept}
 use Rattle.claims.specs.CRows.{ofRecord, roomFor, textRows}
 use Rattle.claims.specs.CViews as c
-use Rattle.claims.specs.CViews.{LoadRun, CheckRun, CheckSoundRun, FrameRun, RasterRun, WordsRun, MarksRun, SummariesRun, ReplaceRun}
+use Rattle.claims.specs.CViews.{LoadRun, AcceptRun, CheckSoundRun, FrameRun, RasterRun, WordsRun, MarksRun, SummariesRun, ReplaceRun}
 use Rattle.claims.specs.CViews.{ColourRun, MixRun, SyncRun, SoundRun, PairRun, FileRun, WriteRun, TextRun}
-use Rattle.claims.proofs.CCodes.{no-rows, plain, fits-after, setting-fits, sound-fits, mix-fits, load-fits}
+use Rattle.claims.proofs.CCodes.{no-rows, plain, fits-after, setting-fits, sound-fits, mix-fits, accept-fits, accept-sound-fits}
 use Rattle.claims.proofs.CCodes.{by-code, kept-code, kept-under, record-told, record-fits, record-code, room-code}
 
 -- The numbers of each table, in its order.
 module _ (values written : List ℕ) where
-  pub vom-load-numbers : (words : List ℕ) → numbers (ofRecord values written λ g. loadTable words) ≡ 13 ∷ 1 ∷ 2 ∷ []
-  vom-load-numbers words = refl
+  pub vom-load-and-check-numbers : (words : List ℕ) (places : ℕ)
+      → numbers ((ofRecord values written λ g. acceptTable g words) ++ roomFor 21 places) ≡ 13 ∷ 1 ∷ 2 ∷ (settingNumbers ++ (13 ∷ []))
+  vom-load-and-check-numbers words places = refl
+
+  pub vom-load-and-check-sound-numbers : (words : List ℕ) → numbers (ofRecord values written λ g. acceptSoundTable g words) ≡ 13 ∷ 1 ∷ 2 ∷ 3 ∷ 10 ∷ []
+  vom-load-and-check-sound-numbers words = refl
 
   pub vom-load-word-numbers : (word : ℕ) → numbers (ofRecord values written λ g. wordTable word) ≡ 13 ∷ 2 ∷ []
   vom-load-word-numbers word = refl
-
-  pub vom-check-numbers : (places : ℕ) → numbers (ofRecord values written settingTable ++ roomFor 21 places) ≡ 13 ∷ (settingNumbers ++ (13 ∷ []))
-  vom-check-numbers places = refl
 
   pub vom-check-sound-numbers : numbers (ofRecord values written soundTable) ≡ 13 ∷ 3 ∷ 10 ∷ []
   vom-check-sound-numbers = refl
@@ -127,20 +129,40 @@ vom-read-numbers file places = refl
 pub vom-text-numbers : (file : List ℕ) (places : ℕ) → numbers (textRows file places) ≡ 13 ∷ []
 vom-text-numbers file places = refl
 
--- Loading.
-pub vom-load-refuses : Every c.load λ run.
-    ByTable (run .answer) (ofRecord (run .values) (run .written) λ g. loadTable (run .words)) tt
+-- Loading a list and checking what it leaves.
+pub vom-load-and-check-refuses : Every c.loadAndCheck λ run.
+    ByTable (run .answer) ((ofRecord (run .values) (run .written) λ g. acceptTable g (run .words)) ++ roomFor 21 (length (run .before))) tt
     × Kept (run .answer) (run .values) (run .values-after) × Kept (run .answer) (run .written) (run .written-after)
-unfolding loadCall loadValuesLeaves loadWrittenLeaves
-vom-load-refuses κs a x s p =
-    let run : LoadRun (List ℕ) = c.load .seen κs a x s in
-    let t = loadCall (run .values) (run .written) (run .words) in (
-      record-code (run .values) (run .written) (λ g. loadTold (run .words)) (λ g. loadTable (run .words)) (λ g. tt)
-          (λ g. load-fits (run .words)) (λ g. load-told (run .words)) (p .0),
+    × Kept (run .answer) (run .before) (run .after)
+unfolding acceptTold acceptedTold acceptCall acceptValuesLeaves acceptWrittenLeaves
+vom-load-and-check-refuses κs a x s p =
+    let run : AcceptRun = c.loadAndCheck .seen κs a x s in
+    let g = recordOf (run .values) (run .written) in
+    let t = acceptCall (run .values) (run .written) (run .words) (length (run .before)) in (
+      room-code 21 (length (run .before)) numbersOf (ofRecord (run .values) (run .written) λ g. acceptTable g (run .words))
+          (settingOf (applied g (run .words)))
+          (record-fits (run .values) (run .written) (λ g. acceptTable g (run .words)) (λ g. accept-fits g (run .words)))
+          (record-told (run .values) (run .written) (λ g. acceptTold g (run .words)) (λ g. acceptTable g (run .words))
+          (λ g. settingOf (applied g (run .words))) (λ g. refl)) (p .0),
+      kept-code t (λ u. unlessRefused u (run .values) (valuesStored (run .values) (run .words))) (p .0) (p .1) (λ w. refl),
+      kept-code t (λ u. unlessRefused u (run .written) (flagsStored (run .written) (run .words))) (p .0) (p .2) (λ w. refl),
+      kept-code t (λ u. storedBy u (run .before)) (p .0) (p .3) (λ w. refl),
+    )
+
+pub vom-load-and-check-sound-refuses : Every c.loadAndCheckSound λ run.
+    ByTable (run .answer) (ofRecord (run .values) (run .written) λ g. acceptSoundTable g (run .words)) tt
+    × Kept (run .answer) (run .values) (run .values-after) × Kept (run .answer) (run .written) (run .written-after)
+unfolding acceptSoundTold acceptSoundCall soundValuesLeaves soundWrittenLeaves
+vom-load-and-check-sound-refuses κs a x s p =
+    let run : LoadRun (List ℕ) = c.loadAndCheckSound .seen κs a x s in
+    let t = acceptSoundCall (run .values) (run .written) (run .words) in (
+      record-code (run .values) (run .written) (λ g. acceptSoundTold g (run .words)) (λ g. acceptSoundTable g (run .words)) (λ g. tt)
+          (λ g. accept-sound-fits g (run .words)) (λ g. refl) (p .0),
       kept-code t (λ u. unlessRefused u (run .values) (valuesStored (run .values) (run .words))) (p .0) (p .1) (λ w. refl),
       kept-code t (λ u. unlessRefused u (run .written) (flagsStored (run .written) (run .words))) (p .0) (p .2) (λ w. refl),
     )
 
+-- One word.
 pub vom-load-word-refuses : Every c.loadWord λ run.
     ByTable (run .answer) (ofRecord (run .values) (run .written) λ g. wordTable (run .words)) tt
     × Kept (run .answer) (run .values) (run .values-after) × Kept (run .answer) (run .written) (run .written-after)
@@ -154,19 +176,7 @@ vom-load-word-refuses κs a x s p =
       kept-code t (λ u. unlessRefused u (run .written) (flagStored (run .written) (run .words))) (p .0) (p .2) (λ w. refl),
     )
 
--- Judging.
-pub vom-check-refuses : Every c.check λ run.
-    ByTable (run .answer) (ofRecord (run .values) (run .written) settingTable ++ roomFor 21 (length (run .before))) tt
-    × Kept (run .answer) (run .before) (run .after)
-unfolding checkCall settingTold
-vom-check-refuses κs a x s p =
-    let run : CheckRun = c.check .seen κs a x s in (
-      room-code 21 (length (run .before)) numbersOf (ofRecord (run .values) (run .written) settingTable) (settingOf (recordOf (run .values) (run .written)))
-          (record-fits (run .values) (run .written) settingTable setting-fits)
-          (record-told (run .values) (run .written) checkTold settingTable settingOf check-told) (p .0),
-      kept-code (checkCall (run .values) (run .written) (length (run .before))) (λ u. storedBy u (run .before)) (p .0) (p .1) (λ w. refl),
-    )
-
+-- Judging for sound.
 pub vom-check-sound-refuses : Every c.checkSound λ run. ByTable (run .answer) (ofRecord (run .values) (run .written) soundTable) tt
 unfolding checkSoundCall
 vom-check-sound-refuses κs a x s p =

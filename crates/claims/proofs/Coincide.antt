@@ -6,8 +6,8 @@ pub use Rattle.registers.proofs.Unique.{one-pixels, one-width-from, one-height-
 pub use Rattle.registers.proofs.Unique.{one-addresses, one-of-slots, one-new, one-store, one-palette, one-border, one-cursor-colour}
 pub use Rattle.registers.proofs.Unique.{one-display-on, one-border-on}
 pub use Rattle.registers.proofs.Unique.{one-video-words, one-cursor-words, one-pixel-rate, one-control, one-entries-in-use, one-sub-position}
-pub use Rattle.registers.proofs.Unique.{one-cursor-on, one-setting, one-stereo, one-sound-frequency, one-load-word, one-load, one-check}
-pub use Rattle.registers.proofs.Unique.{one-check-sound}
+pub use Rattle.registers.proofs.Unique.{one-cursor-on, one-setting, one-stereo, one-sound-frequency, one-load-word, one-load-and-check}
+pub use Rattle.registers.proofs.Unique.{one-load-and-check-sound, one-check-sound}
 pub use Rattle.queues.proofs.Unique.{one-fresh, one-load-by-value, one-read-by-value, one-vertical-sync-by-value, one-ask-by-value}
 pub use Rattle.queues.proofs.Unique.{one-horizontal-sync, one-sync-ends, one-cursor-ask, one-video-ask, one-sync-ask}
 pub use Rattle.queues.proofs.Unique.{one-queue-load, one-queue-read, one-queue-vertical-sync, one-queue-ask}
@@ -22,9 +22,9 @@ pub use Rattle.plates.proofs.Unique.{one-read, one-copy-out, one-write}
 pub use Rattle.pictures.proofs.Unique.{one-guns, one-colours, one-head-is-whole, one-head-is-open, one-head-next}
 pub use Rattle.waves.proofs.Unique.{one-head, one-samples}
 pub use Rattle.sheets.proofs.Unique.{one-take, one-take-input}
-pub use Rattle.outputs.proofs.Unique.{one-line, one-refused, one-text, one-strip, one-block, one-refusal}
-pub use Rattle.vombelishi.proofs.Unique.{one-vom-read, one-vom-copy, one-vom-write, one-vom-colour, one-vom-grey, one-vom-pin, one-vom-load}
-pub use Rattle.vombelishi.proofs.Unique.{one-vom-load-word, one-vom-frame, one-vom-raster, one-vom-raster-words, one-vom-marks, one-vom-check}
+pub use Rattle.outputs.proofs.Unique.{one-line, one-refused, one-text, one-strip, one-block}
+pub use Rattle.vombelishi.proofs.Unique.{one-vom-read, one-vom-copy, one-vom-write, one-vom-colour, one-vom-grey, one-vom-pin, one-vom-load-and-check}
+pub use Rattle.vombelishi.proofs.Unique.{one-vom-load-word, one-vom-frame, one-vom-raster, one-vom-raster-words, one-vom-marks, one-vom-load-and-check-sound}
 pub use Rattle.vombelishi.proofs.Unique.{one-vom-summaries, one-vom-replace, one-vom-check-sound, one-vom-sound, one-vom-sound-pair, one-vom-text}
 pub use Rattle.vombelishi.proofs.Unique.{one-vom-queue-fresh, one-vom-queue-load, one-vom-queue-read, one-vom-queue-vertical-sync}
 pub use Rattle.vombelishi.proofs.Unique.{one-vom-queue-ask, one-vom-sync-ask, one-vom-mix}

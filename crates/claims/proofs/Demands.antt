@@ -3,7 +3,6 @@
 use Prim.Native.Nat.{ℕ, _+_, _*_, _%_, _^_, _≤_}
 use mathlib.Core.Path.{_≡_, refl, sym, _∙_, ap}
 use mathlib.Core.List.{List}
-use mathlib.Core.Logic.{_↔_}
 use native.Mathlib.Omega.{arith}
 use lib.ListN.{length, getD, take}
 use lib.Seq.{sets}
@@ -14,9 +13,7 @@ use Rattle.buffers.specs.Words.{Below}
 use Rattle.refusals.specs.Table.{Told, given, unlessRefused}
 use Rattle.refusals.proofs.Tables.{passed}
 use Rattle.registers.specs.Setting.{settingOf}
-use Rattle.registers.specs.Rules.{EveryRule}
 use Rattle.registers.specs.declared.record.Registers.{Registers}
-use Rattle.registers.proofs.Exactly.{exactly}
 use Rattle.frame.specs.Frame.{cells, frameCell, rasterCell, rasterTable, rasterTold, rasterLeaves}
 use Rattle.marks.specs.Count.{bit, countBelow}
 use Rattle.marks.specs.Marks.{isMark, marksOf}
@@ -36,12 +33,10 @@ use Rattle.claims.proofs.Runs.{framed}
 use Rattle.claims.proofs.Refusals.{raster-refuses}
 -- Each cell of the frame, of every run that is asked rightly; and such a run exists.
 pub use Rattle.claims.proofs.Runs.{each-cell, right-runs, of-run}
+-- Accepted exactly when every rule holds.
+pub use Rattle.claims.proofs.Accept.{accepted-exactly, accept-run}
 -- One byte's pair.
 pub use Rattle.sound.proofs.Places.{pair-within}
-
--- Accepted exactly when every rule holds.
-pub accepted-exactly : Every call.check λ run. (run .answer ≡ given (settingOf (run .registers))) ↔ EveryRule (run .registers)
-accepted-exactly κs a x s p = let g = call.check .seen κs a x s .registers in (λ e. exactly g .0 (sym p ∙ e), λ h. p ∙ exactly g .1 h)
 
 raster-held : (g : Registers) (video cursor : List ℕ) (y : ℕ) (before after : List ℕ) → settingOf g .n .0 ≤ length before
     → rasterTold g video cursor y (length before) ≡ given tt → after ≡ rasterLeaves g video cursor y before → Rastered g video cursor y before after

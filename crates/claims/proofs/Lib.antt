@@ -12,6 +12,7 @@ pub mod CCodes
 pub mod CRefusals
 pub mod Lent
 pub mod Dark
+pub mod Accept
 pub mod Demands
 pub mod PerRaster
 pub mod Printed

@@ -1,5 +1,5 @@
--- Demand 1 for a plate that is taken apart, printed or played: its refusals, in the order 14, 1, 2, 13 of a file, and of standard input 15, 14, 1, 2,
--- then the setting's and 11, or 3 and 10, and what is written of it then. What is written of a plate is what is written of its own record and lists.
+-- Demand 1 for a plate that is taken apart, printed or played: its refusals, in the order 14, 13 of a file, and of standard input 15, 14, then those of
+-- load and check and 11, or 1, 2, 3 and 10, and what is written of it then. What is written of a plate is what is written of its own record and lists.
 use Prim.Native.Nat.{ℕ}
 use mathlib.Core.Path.{_≡_, refl, _∙_, ap}
 use mathlib.Core.List.{List, [], _∷_, _++_}
@@ -14,26 +14,27 @@ use Rattle.refusals.specs.Table.{Why, Told, given, refused, Row, First}
 use Rattle.registers.specs.Setting.{settingOf}
 use Rattle.registers.specs.Sound.{soundTable, soundTold}
 use Rattle.registers.specs.declared.record.Registers.{Registers}
-use Rattle.plates.specs.Read.{copied}
-use Rattle.sheets.specs.Sheet.{registersOf, takeTable, takeTold}
+use Rattle.plates.specs.Read.{copyTable, copyTold, copied}
+use Rattle.sheets.specs.Sheet.{registersOf}
 use Rattle.sheets.specs.Input.{inputTable, inputTold}
 use Rattle.cells.specs.Picture.{pictureTable, pictureTold}
 use Rattle.outputs.specs.Sheet.{sheetTable, sheetTold}
-use Rattle.outputs.specs.Text.{refusedLine, pictureLine, lineBy, lineAt, firstLines, textBy, pictureText, textOf}
-use Rattle.outputs.specs.Strip.{pictureStrip, stripBy, stripAt, firstStrips, pictureBy, pictureOf}
-use Rattle.outputs.specs.Wave.{waveTable, waveTold, waveOf, refusalBy, soundRefusal, waveBlock, blockBy, blockAt}
+use Rattle.outputs.specs.Text.{refusedLine, pictureLine, lineBy, lineAt, pictureText, textOf}
+use Rattle.outputs.specs.Strip.{pictureStrip, stripBy, stripAt, pictureOf}
+use Rattle.outputs.specs.Wave.{waveTable, waveTold, waveOf, waveBlock, blockBy, blockAt}
 use Rattle.claims.specs.Calls.{Every, numbers, settingNumbers, ByTable, Kept}
 use Rattle.claims.specs.Views as call
 use Rattle.claims.specs.Views.{PictureLists, SoundWords, PieceRun, TakeRun}
 use Rattle.claims.specs.Pieces.{Stored, StoredBy, tableOf}
 use Rattle.claims.proofs.Tables.{by-table, kept}
-pub use Rattle.outputs.proofs.Sheets.{text-taken, text-untaken, picture-taken, picture-untaken, sound-taken, wave-untaken}
+use Rattle.outputs.proofs.Sheets.{text-refused as text-of-refused, picture-refused as picture-of-refused, wave-refused as wave-of-refused}
+pub use Rattle.outputs.proofs.Sheets.{sheet-untaken, sheet-unaccepted, text-accepted, picture-accepted, wave-untaken, wave-unaccepted, sound-accepted}
 
 -- The numbers of each table, in its order.
-pub take-numbers : (file : List ℕ) (places : ℕ) → numbers (takeTable file places) ≡ 14 ∷ 1 ∷ 2 ∷ 13 ∷ []
+pub take-numbers : (file : List ℕ) (places : ℕ) → numbers (copyTable file places) ≡ 14 ∷ 13 ∷ []
 take-numbers file places = refl
 
-pub input-numbers : (file : List ℕ) → numbers (inputTable file) ≡ 15 ∷ 14 ∷ 1 ∷ 2 ∷ []
+pub input-numbers : (file : List ℕ) → numbers (inputTable file) ≡ 15 ∷ 14 ∷ []
 input-numbers file = refl
 
 pub wave-numbers : (file : List ℕ) → numbers (waveTable file) ≡ 15 ∷ 14 ∷ 1 ∷ 2 ∷ 3 ∷ 10 ∷ []
@@ -44,11 +45,11 @@ sheet-numbers file = refl
 
 -- A plate is taken apart, or refused by its table, and then nothing changes.
 pub take-refuses : Every call.take λ run.
-    ByTable (run .answer) (takeTable (run .file) (length (run .before))) tt × Kept (run .answer) (run .before) (run .after)
-unfolding takeTold
+    ByTable (run .answer) (copyTable (run .file) (length (run .before))) tt × Kept (run .answer) (run .before) (run .after)
+unfolding copyTold
 take-refuses κs a x s p =
     let run : TakeRun = call.take .seen κs a x s in
-    (by-table tt (takeTable (run .file) (length (run .before))) (p .0), kept (sets (run .before) 0 (copied (run .file))) (p .0) (p .2))
+    (by-table tt (copyTable (run .file) (length (run .before))) (p .0), kept (sets (run .before) 0 (copied (run .file))) (p .0) (p .2))
 
 pub take-input-refuses : Every call.takeInput λ run.
     ByTable (run .answer) (inputTable (run .file)) tt × Kept (run .answer) (run .before) (run .after)
@@ -102,8 +103,7 @@ pub no-other-line : Every call.line λ run. (w : Why) → First (tableOf run) w 
 no-other-line κs a x s p w f h = rw (ne-eqb (call.line .seen κs a x s .index) 0 h) at (line-stored κs a x s p .refused w f)
 
 pub text-refused : (file : List ℕ) (w : Why) → First (sheetTable file) w → textOf file ≡ refusedLine w
-unfolding textOf textBy firstLines
-text-refused file w f = rw (sheet-table file .refused-when w .1 f)
+text-refused file w f = text-of-refused file w (sheet-table file .refused-when w .1 f)
 
 -- The whole text of a picture, and the line that refuses, where they fit; none of either where not.
 pub text-stored : Every call.text λ run.
@@ -124,10 +124,9 @@ strip-stored κs a x s p =
     (picture-table (run .of .registers) (run .of .video) (run .of .cursor)) p
 
 pub picture-refused : (file : List ℕ) (w : Why) → First (sheetTable file) w → pictureOf file ≡ []
-unfolding pictureOf pictureBy firstStrips
-picture-refused file w f = rw (sheet-table file .refused-when w .1 f)
+picture-refused file w f = picture-of-refused file w (sheet-table file .refused-when w .1 f)
 
--- A block of the sound; a record whose sound is refused has none, and a line that says so.
+-- A block of the sound; a record whose sound is refused has none.
 pub block-stored : Every call.block λ run.
     StoredBy run (soundTable (run .of .registers)) (waveBlock (run .of .registers) (run .of .words) (run .index)) (λ w. [])
 unfolding blockAt
@@ -136,11 +135,5 @@ block-stored κs a x s p =
     piece run (λ t. blockBy (run .of .registers) (run .of .words) t (run .index)) (sound-table (run .of .registers)) p
 
 pub wave-refused : (file : List ℕ) (w : Why) → First (waveTable file) w → waveOf file ≡ []
-unfolding waveOf
-wave-refused file w f = rw (wave-table file .refused-when w .1 f)
+wave-refused file w f = wave-of-refused file w (wave-table file .refused-when w .1 f)
 
-pub sound-refusal-stored : Every call.soundRefusal λ run. StoredBy run (soundTable (run .of)) [] refusedLine
-unfolding soundRefusal
-sound-refusal-stored κs a x s p =
-    let run : PieceRun Registers = call.soundRefusal .seen κs a x s in
-    piece run refusalBy (sound-table (run .of)) p

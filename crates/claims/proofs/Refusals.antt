@@ -8,12 +8,12 @@ use lib.Seq.{sets}
 use Rattle.buffers.specs.Painted.{painted}
 use Rattle.registers.specs.Record.{storedOf, wordTable}
 use Rattle.refusals.proofs.Tables.{judged-then}
-use Rattle.registers.specs.Load.{applied, loadTable}
+use Rattle.registers.specs.Load.{applied}
 use Rattle.registers.specs.Setting.{settingOf}
-use Rattle.registers.specs.Check.{settingTable}
+use Rattle.registers.specs.Accept.{acceptTable, acceptTold, acceptSoundTable, acceptSoundTold}
 use Rattle.registers.specs.Sound.{soundTable}
 use Rattle.registers.specs.declared.record.Registers.{Registers}
-use Rattle.registers.proofs.Told.{load-told, check-told, sound-told}
+use Rattle.registers.proofs.Told.{sound-told}
 use Rattle.frame.specs.Frame.{cells, frameCell, frameLeaves, rasterCell, rasterLeaves, frameTable, rasterTable}
 use Rattle.cells.specs.Picture.{pictureTable}
 use Rattle.cells.proofs.Pictures.{picture-told}
@@ -37,7 +37,7 @@ use Rattle.sound.proofs.Told.{play-told, pair-told}
 use Rattle.plates.proofs.Told.{read-told, copy-told, write-told}
 use Rattle.claims.specs.Calls.{Every, numbers, settingNumbers, ByTable, Kept}
 use Rattle.claims.specs.Views as call
-use Rattle.claims.specs.Views.{LoadRun, PictureRun, FrameRun, RasterRun, MixRun, MarksRun, SummariesRun, ReplaceRun, StretchRun}
+use Rattle.claims.specs.Views.{LoadRun, AcceptRun, PictureRun, FrameRun, RasterRun, MixRun, MarksRun, SummariesRun, ReplaceRun, StretchRun}
 use Rattle.claims.specs.Views.{PlayRun, PairRun, CopyRun, WriteRun}
 use Rattle.claims.proofs.Tables.{by-table, kept}
 
@@ -45,11 +45,11 @@ use Rattle.claims.proofs.Tables.{by-table, kept}
 pub load-word-numbers : (word : ℕ) → numbers (wordTable word) ≡ 2 ∷ []
 load-word-numbers word = refl
 
-pub load-numbers : (words : List ℕ) → numbers (loadTable words) ≡ 1 ∷ 2 ∷ []
-load-numbers words = refl
+pub load-and-check-numbers : (g : Registers) (words : List ℕ) → numbers (acceptTable g words) ≡ 1 ∷ 2 ∷ settingNumbers
+load-and-check-numbers g words = refl
 
-pub check-numbers : (g : Registers) → numbers (settingTable g) ≡ settingNumbers
-check-numbers g = refl
+pub load-and-check-sound-numbers : (g : Registers) (words : List ℕ) → numbers (acceptSoundTable g words) ≡ 1 ∷ 2 ∷ 3 ∷ 10 ∷ []
+load-and-check-sound-numbers g words = refl
 
 pub frame-numbers : (g : Registers) (video cursor : List ℕ) (room : ℕ) → numbers (frameTable g video cursor room) ≡ settingNumbers ++ (11 ∷ 13 ∷ [])
 frame-numbers g video cursor room = refl
@@ -96,22 +96,30 @@ copy-out-numbers file places = refl
 pub write-numbers : (rs vs cs ss : List ℕ) (places : ℕ) → numbers (writeTable rs vs cs ss places) ≡ 15 ∷ 13 ∷ []
 write-numbers rs vs cs ss places = refl
 
--- Loading.
+-- Loading one word.
 pub load-word-refuses : Every call.loadWord λ run.
     ByTable (run .answer) (wordTable (run .words)) tt × Kept (run .answer) (run .registers) (run .loaded)
 load-word-refuses κs a x s p =
     let run : LoadRun ℕ = call.loadWord .seen κs a x s in
     (by-table tt (wordTable (run .words)) (p .0), kept (storedOf (run .registers) (run .words)) (p .0) (p .1))
 
-pub load-refuses : Every call.load λ run.
-    ByTable (run .answer) (loadTable (run .words)) tt × Kept (run .answer) (run .registers) (run .loaded)
-load-refuses κs a x s p =
-    let run : LoadRun (List ℕ) = call.load .seen κs a x s in
-    (by-table tt _ (p .0 ∙ load-told (run .words)), kept (applied (run .registers) (run .words)) (p .0) (p .1))
+-- Loading a list and checking what it leaves.
+pub load-and-check-refuses : Every call.loadAndCheck λ run.
+    ByTable (run .answer) (acceptTable (run .registers) (run .words)) (settingOf (applied (run .registers) (run .words)))
+    × Kept (run .answer) (run .registers) (run .handed)
+unfolding acceptTold
+load-and-check-refuses κs a x s p =
+    let run : AcceptRun = call.loadAndCheck .seen κs a x s in
+    (by-table _ (acceptTable (run .registers) (run .words)) (p .0), kept (applied (run .registers) (run .words)) (p .0) (p .1))
 
--- Checking.
-pub check-refuses : Every call.check λ run. ByTable (run .answer) (settingTable (run .registers)) (settingOf (run .registers))
-check-refuses κs a x s p = by-table _ _ (p ∙ check-told (call.check .seen κs a x s .registers))
+pub load-and-check-sound-refuses : Every call.loadAndCheckSound λ run.
+    ByTable (run .answer) (acceptSoundTable (run .registers) (run .words)) tt × Kept (run .answer) (run .registers) (run .loaded)
+unfolding acceptSoundTold
+load-and-check-sound-refuses κs a x s p =
+    let run : LoadRun (List ℕ) = call.loadAndCheckSound .seen κs a x s in
+    (by-table tt (acceptSoundTable (run .registers) (run .words)) (p .0), kept (applied (run .registers) (run .words)) (p .0) (p .1))
+
+-- Judging for sound.
 
 pub check-sound-refuses : Every call.checkSound λ run. ByTable (run .answer) (soundTable (run .registers)) tt
 check-sound-refuses κs a x s p = by-table tt _ (p ∙ sound-told (call.checkSound .seen κs a x s .registers))

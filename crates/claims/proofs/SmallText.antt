@@ -11,6 +11,7 @@ use Rattle.registers.specs.Record.{reserved, fresh, storedOf}
 use Rattle.registers.specs.Load.{leading, applied}
 use Rattle.registers.specs.Lowest.{lowest}
 use Rattle.registers.specs.Setting.{settingOf, videoWords, cursorWords}
+use Rattle.registers.specs.Accept.{acceptTold}
 use Rattle.registers.specs.Small.{smallWords, smallRegisters}
 use Rattle.registers.specs.declared.setting.Setting.{Setting}
 use Rattle.cells.specs.Pixel.{pixel}
@@ -27,7 +28,7 @@ use Rattle.sheets.specs.Sheet.{registerWords, videoList, cursorList, registersO
 use Rattle.sheets.specs.Input.{inputTold}
 use Rattle.outputs.specs.Sheet.{sheetTold}
 use Rattle.outputs.specs.Text.{labelled, headLine, rasterLine, pictureHead, pictureLine, firstLines, textBy, textOf}
-use Rattle.outputs.proofs.Sheets.{sheet-taken}
+use Rattle.outputs.proofs.Sheets.{sheet-accepted}
 use Rattle.outputs.proofs.Spread.{Codes, _of_, spread, Apart, runsText, line-spread}
 use Rattle.claims.specs.Marked.{smallVideo}
 use Rattle.claims.specs.SmallText.{smallPlate, smallText, bytes}
@@ -57,15 +58,21 @@ unfolding reserved storedOf applied lowest settingOf videoWords cursorWords pict
 small-picture = refl
 
 small-taken : inputTold smallPlate ≡ given tt
-unfolding reserved plateOf bytesOf wordsOf registerWords leading inputTold
+unfolding plateOf bytesOf wordsOf inputTold
 small-taken = refl
+
+small-accepted : acceptTold fresh smallWords ≡ given small
+unfolding reserved storedOf applied leading lowest settingOf acceptTold
+small-accepted = refl
 
 small-registers : registersOf smallPlate ≡ smallRegisters
 unfolding registersOf
 small-registers = ap (applied fresh) registers-back
 
 small-told : sheetTold smallPlate ≡ given small
-small-told = sheet-taken smallPlate small-taken ∙ rw (small-registers, video-back, cursor-back) small-picture
+small-told =
+    sheet-accepted smallPlate small-taken small (ap (acceptTold fresh) registers-back ∙ small-accepted)
+    ∙ rw (small-registers, video-back, cursor-back) small-picture
 
 -- The head: no cell of the frame is a mark.
 head : pictureHead smallRegisters small smallVideo [] ≡ bytes "frame 32 6 words 1 marks 0\n"

@@ -6,12 +6,12 @@ use lib.IntN.{ℤ}
 use denote.Ref.{now}
 use Rattle.buffers.specs.Pick.{pick}
 use Rattle.refusals.specs.Table.{why, Told, given, refused}
-use Rattle.vombelishi.proofs.loads.vom_load.Kinds as load-kinds
-use Rattle.vombelishi.proofs.loads.vom_load.Reads as load-reads
+use Rattle.vombelishi.proofs.loads.vom_load_and_check.Kinds as load-and-check-kinds
+use Rattle.vombelishi.proofs.loads.vom_load_and_check.Reads as load-and-check-reads
+use Rattle.vombelishi.proofs.loads.vom_load_and_check_sound.Kinds as load-and-check-sound-kinds
+use Rattle.vombelishi.proofs.loads.vom_load_and_check_sound.Reads as load-and-check-sound-reads
 use Rattle.vombelishi.proofs.loads.vom_load_word.Kinds as load-word-kinds
 use Rattle.vombelishi.proofs.loads.vom_load_word.Reads as load-word-reads
-use Rattle.vombelishi.proofs.settings.vom_check.Kinds as check-kinds
-use Rattle.vombelishi.proofs.settings.vom_check.Reads as check-reads
 use Rattle.vombelishi.proofs.settings.vom_check_sound.Kinds as check-sound-kinds
 use Rattle.vombelishi.proofs.settings.vom_check_sound.Reads as check-sound-reads
 use Rattle.vombelishi.proofs.pictures.vom_frame.Kinds as frame-kinds
@@ -50,7 +50,7 @@ use Rattle.claims.specs.Calls.{Call, call}
 abbrev pub codeSays : ℕ → Told (Unit {0})
 codeSays code = pick (eqb code 0) (given tt) (refused (why (code / 2 ^ 32) (code % 2 ^ 32)))
 
--- Loading a list, or one word.
+-- Loading one word, or a list for sound.
 pub record LoadRun (W : Type 0) : Type 0 where
   pub values : List ℕ
   pub written : List ℕ
@@ -59,8 +59,8 @@ pub record LoadRun (W : Type 0) : Type 0 where
   pub values-after : List ℕ
   pub written-after : List ℕ
 
-abbrev pub load : Call
-load = call 3 load-kinds.ps load-kinds.r load-reads.Post (LoadRun (List ℕ))
+abbrev pub loadAndCheckSound : Call
+loadAndCheckSound = call 3 load-and-check-sound-kinds.ps load-and-check-sound-kinds.r load-and-check-sound-reads.Post (LoadRun (List ℕ))
     λ κs a x s. record {
       values = now (a .0);
       written = now (a .1 .0);
@@ -81,24 +81,31 @@ loadWord = call 2 load-word-kinds.ps load-word-kinds.r load-word-reads.Post (Loa
       written-after = now (s .1 .0);
     }
 
--- Judging a record, for a picture or for sound.
-pub record CheckRun : Type 0 where
+-- Loading a list and checking what it leaves; the setting's numbers go to lent memory.
+pub record AcceptRun : Type 0 where
   pub values : List ℕ
   pub written : List ℕ
+  pub words : List ℕ
   pub answer : Told (Unit {0})
+  pub values-after : List ℕ
+  pub written-after : List ℕ
   pub before : List ℕ
   pub after : List ℕ
 
-abbrev pub check : Call
-check = call 3 check-kinds.ps check-kinds.r check-reads.Post CheckRun
+abbrev pub loadAndCheck : Call
+loadAndCheck = call 4 load-and-check-kinds.ps load-and-check-kinds.r load-and-check-reads.Post AcceptRun
     λ κs a x s. record {
       values = now (a .0);
       written = now (a .1 .0);
+      words = now (a .1 .1 .0);
       answer = codeSays x;
-      before = now (a .1 .1 .0);
-      after = now (s .1 .1 .0);
+      values-after = now (s .0);
+      written-after = now (s .1 .0);
+      before = now (a .1 .1 .1 .0);
+      after = now (s .1 .1 .1 .0);
     }
 
+-- Judging a record for sound.
 pub record CheckSoundRun : Type 0 where
   pub values : List ℕ
   pub written : List ℕ

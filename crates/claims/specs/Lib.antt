@@ -2,6 +2,7 @@ pub mod Shown
 pub mod Exhibited
 pub mod Calls
 pub mod Views
+pub mod Accept
 pub mod Framed
 pub mod PerRaster
 pub mod RoundTrip

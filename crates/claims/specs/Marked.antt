@@ -13,7 +13,7 @@ use Rattle.registers.specs.Control.{pixelRate, depthOf}
 use Rattle.registers.specs.Geometry.{tenBits}
 use Rattle.registers.specs.Setting.{settingOf, displayOn}
 use Rattle.registers.specs.Stereo.{stereoOf}
-use Rattle.registers.specs.Check.{checkTold}
+use Rattle.registers.specs.Accept.{acceptTold}
 use Rattle.registers.specs.Small.{timing, smallRegisters}
 use Rattle.registers.specs.declared.record.Registers.{Registers}
 use Rattle.colours.specs.Colour.{colourOf}
@@ -65,16 +65,16 @@ markedCases =
     ++ (40960 ∷ 40961 ∷ 40962 ∷ 40963 ∷ 40964 ∷ 40965 ∷ 40966 ∷ 40967 ∷ [])
     ++ replicate 4 36608 ++ replicate 9 0)
     -- 11: HBER 15 accepted (BE 31), 16 refused with 6
-    ∷ ((checkTold (smallBut (timing 0x94 15)) ≡ given (settingOf (smallBut (timing 0x94 15))))
+    ∷ ((acceptTold smallRegisters (timing 0x94 15 ∷ []) ≡ given (settingOf (smallBut (timing 0x94 15))))
     × (settingOf (smallBut (timing 0x94 15)) .be .0 ≡ 31)
-    × (checkTold (smallBut (timing 0x94 16)) ≡ refused (why 6 0)))
+    × (acceptTold smallRegisters (timing 0x94 16 ∷ []) ≡ refused (why 6 0)))
     -- 12: HDER 2 refused with 6; HDER 5 (DE 17, width 6) with 8
-    ∷ ((checkTold (smallBut (timing 0x90 2)) ≡ refused (why 6 0))
-    × (checkTold (smallBut (timing 0x90 5)) ≡ refused (why 8 0))
+    ∷ ((acceptTold smallRegisters (timing 0x90 2 ∷ []) ≡ refused (why 6 0))
+    × (acceptTold smallRegisters (timing 0x90 5 ∷ []) ≡ refused (why 8 0))
     × (settingOf (smallBut (timing 0x90 5)) .de .0 ≡ 17)
     × (settingOf (smallBut (timing 0x90 5)) .de .0 - settingOf (smallBut (timing 0x90 5)) .ds .0 ≡ 6))
     -- 13: VDER 2 is display off, one video word then refused with 11
-    ∷ ((checkTold (smallBut (timing 0xB0 2)) ≡ given (settingOf (smallBut (timing 0xB0 2))))
+    ∷ ((acceptTold smallRegisters (timing 0xB0 2 ∷ []) ≡ given (settingOf (smallBut (timing 0xB0 2))))
     × (displayOn (settingOf (smallBut (timing 0xB0 2))) ≡ false)
     × (frameTold (smallBut (timing 0xB0 2)) smallVideo [] 192 ≡ refused (why 11 0)))
     ∷ []

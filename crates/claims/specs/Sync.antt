@@ -6,11 +6,11 @@ use lib.ListN.{getD}
 use Rattle.refusals.specs.Table.{why, given, refused}
 use Rattle.registers.specs.Addresses.{CURSOR, HCR, HSWR, HBSR, HDSR, HDER, HBER, HCSR, VSWR, VCSR, VCER, CONTROL}
 use Rattle.registers.specs.Control.{control, rateField, pixelRate}
-use Rattle.registers.specs.Record.{storedOf}
+use Rattle.registers.specs.Record.{fresh, storedOf}
 use Rattle.registers.specs.Load.{applied}
 use Rattle.registers.specs.Setting.{settingOf}
-use Rattle.registers.specs.Check.{checkTold}
-use Rattle.registers.specs.Small.{wordOf, timing, smallRegisters}
+use Rattle.registers.specs.Accept.{acceptTold}
+use Rattle.registers.specs.Small.{wordOf, timing, smallWords, smallRegisters}
 use Rattle.registers.specs.declared.record.Registers.{Registers}
 
 -- The shortest sync that a cursor is given, in pixels, by the pixel rate. A sync is an even number of pixels.
@@ -32,9 +32,9 @@ abbrev pub EndsAt : ℕ → ℕ → ℕ → Type 0
 EndsAt choice rate sync =
     (pixelRate (pointed choice sync) ≡ rate)
     × (settingOf (pointed choice sync) .hs .0 ≡ sync)
-    × (checkTold (pointed choice sync) ≡ given (settingOf (pointed choice sync)))
+    × (acceptTold smallRegisters (pointedWords choice sync) ≡ given (settingOf (pointed choice sync)))
     × (settingOf (pointed choice (sync - 2)) .hs .0 ≡ sync - 2)
-    × (checkTold (pointed choice (sync - 2)) ≡ refused (why 19 0))
+    × (acceptTold smallRegisters (pointedWords choice (sync - 2)) ≡ refused (why 19 0))
 
 abbrev pub syncCases : List (Type 0)
 syncCases =
@@ -44,11 +44,11 @@ syncCases =
     ∷ EndsAt 2 16 14
     ∷ EndsAt 3 24 20
     -- with the cursor off nothing is asked: of the small plate, 4 pixels at 24 MHz, and of the other with 18 and VCE = VCS
-    ∷ ((settingOf smallRegisters .hs .0 ≡ 4) × (checkTold smallRegisters ≡ given (settingOf smallRegisters)))
-    ∷ (checkTold (storedOf (pointed 3 18) (timing VCER 2)) ≡ given (settingOf (storedOf (pointed 3 18) (timing VCER 2))))
+    ∷ ((settingOf smallRegisters .hs .0 ≡ 4) × (acceptTold fresh smallWords ≡ given (settingOf smallRegisters)))
+    ∷ (acceptTold (pointed 3 18) (timing VCER 2 ∷ []) ≡ given (settingOf (storedOf (pointed 3 18) (timing VCER 2))))
     -- 6 goes before 19: BE past N
-    ∷ (checkTold (storedOf (pointed 3 18) (timing HBER 32)) ≡ refused (why 6 0))
+    ∷ (acceptTold (pointed 3 18) (timing HBER 32 ∷ []) ≡ refused (why 6 0))
     -- and 19 before 7: VS past V
-    ∷ ((checkTold (storedOf (pointed 3 18) (timing VSWR 6)) ≡ refused (why 19 0))
-    × (checkTold (storedOf (pointed 3 20) (timing VSWR 6)) ≡ refused (why 7 0)))
+    ∷ ((acceptTold (pointed 3 18) (timing VSWR 6 ∷ []) ≡ refused (why 19 0))
+    × (acceptTold (pointed 3 20) (timing VSWR 6 ∷ []) ≡ refused (why 7 0)))
     ∷ []

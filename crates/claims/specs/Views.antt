@@ -10,10 +10,10 @@ use Rattle.registers.specs.declared.record.Registers.{Registers}
 use Rattle.registers.specs.declared.setting.Setting.{Setting}
 use Rattle.registers.proofs.record.Registers.load_word.Kinds as load-word-kinds
 use Rattle.registers.proofs.record.Registers.load_word.Reads as load-word-reads
-use Rattle.registers.proofs.record.Registers.load.Kinds as load-kinds
-use Rattle.registers.proofs.record.Registers.load.Reads as load-reads
-use Rattle.registers.proofs.record.Registers.check.Kinds as check-kinds
-use Rattle.registers.proofs.record.Registers.check.Reads as check-reads
+use Rattle.registers.proofs.record.Registers.load_and_check.Kinds as load-and-check-kinds
+use Rattle.registers.proofs.record.Registers.load_and_check.Reads as load-and-check-reads
+use Rattle.registers.proofs.record.Registers.load_and_check_sound.Kinds as load-and-check-sound-kinds
+use Rattle.registers.proofs.record.Registers.load_and_check_sound.Reads as load-and-check-sound-reads
 use Rattle.registers.proofs.record.Registers.check_sound.Kinds as check-sound-kinds
 use Rattle.registers.proofs.record.Registers.check_sound.Reads as check-sound-reads
 use Rattle.cells.proofs.judge.Kinds as judge-kinds
@@ -69,11 +69,9 @@ use Rattle.outputs.proofs.strips.strip.Kinds as strip-kinds
 use Rattle.outputs.proofs.strips.strip.Reads as strip-reads
 use Rattle.outputs.proofs.blocks.block.Kinds as block-kinds
 use Rattle.outputs.proofs.blocks.block.Reads as block-reads
-use Rattle.outputs.proofs.blocks.refusal.Kinds as refusal-kinds
-use Rattle.outputs.proofs.blocks.refusal.Reads as refusal-reads
 use Rattle.claims.specs.Calls.{Call, call}
 
--- Loading one word, or a list.
+-- Loading one word, or a list for sound.
 pub record LoadRun (W : Type 0) : Type 0 where
   pub registers : Registers
   pub words : W
@@ -84,20 +82,28 @@ abbrev pub loadWord : Call
 loadWord = call 0 load-word-kinds.ps load-word-kinds.r load-word-reads.Post (LoadRun ℕ)
     λ κs a x s. record { registers = a .0; words = a .1 .0; answer = answerSays (x .answer); loaded = x .registers }
 
-abbrev pub load : Call
-load = call 1 load-kinds.ps load-kinds.r load-reads.Post (LoadRun (List ℕ))
+abbrev pub loadAndCheckSound : Call
+loadAndCheckSound = call 1 load-and-check-sound-kinds.ps load-and-check-sound-kinds.r load-and-check-sound-reads.Post (LoadRun (List ℕ))
     λ κs a x s. record { registers = a .0; words = now (a .1 .0); answer = answerSays (x .answer); loaded = x .registers }
 
--- Judging a record, for a picture or for sound.
-pub record CheckRun (A : Type 0) : Type 0 where
+-- Loading a list and checking what it leaves.
+pub record AcceptRun : Type 0 where
   pub registers : Registers
-  pub answer : Told A
+  pub words : List ℕ
+  pub answer : Told Setting
+  pub handed : Registers
 
-abbrev pub check : Call
-check = call 0 check-kinds.ps check-kinds.r check-reads.Post (CheckRun Setting) λ κs a x s. record { registers = a .0; answer = checkSays x }
+abbrev pub loadAndCheck : Call
+loadAndCheck = call 1 load-and-check-kinds.ps load-and-check-kinds.r load-and-check-reads.Post AcceptRun
+    λ κs a x s. record { registers = a .0; words = now (a .1 .0); answer = checkSays (x .checked); handed = x .registers }
+
+-- Judging a record for sound.
+pub record CheckRun : Type 0 where
+  pub registers : Registers
+  pub answer : Told (Unit {0})
 
 abbrev pub checkSound : Call
-checkSound = call 0 check-sound-kinds.ps check-sound-kinds.r check-sound-reads.Post (CheckRun (Unit {0}))
+checkSound = call 0 check-sound-kinds.ps check-sound-kinds.r check-sound-reads.Post CheckRun
     λ κs a x s. record { registers = a .0; answer = answerSays x }
 
 -- Judging a picture: a record with its word lists.
@@ -409,10 +415,6 @@ block = call 2 block-kinds.ps block-kinds.r block-reads.Post (PieceRun SoundWord
       before = now (a .1 .1 .1 .0);
       after = now (s .1 .1 .1 .0);
     }
-
-abbrev pub soundRefusal : Call
-soundRefusal = call 1 refusal-kinds.ps refusal-kinds.r refusal-reads.Post (PieceRun Registers)
-    λ κs a x s. record { of = a .0; index = 0; bytes = x; before = now (a .1 .0); after = now (s .1 .0) }
 
 abbrev pub refusedLine : Call
 refusedLine = call 1 refused-kinds.ps refused-kinds.r refused-reads.Post (PieceRun Why)
