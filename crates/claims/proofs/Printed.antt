@@ -136,4 +136,3 @@ block-stored κs a x s p =
 
 pub wave-refused : (file : List ℕ) (w : Why) → First (waveTable file) w → waveOf file ≡ []
 wave-refused file w f = wave-of-refused file w (wave-table file .refused-when w .1 f)
-

@@ -27,4 +27,3 @@ one-strip κs a x y s t p q = (p .after ∙ sym (q .after), p .stored ∙ sym (q
 
 pub one-block : OneState 2 block-kinds.ps block-kinds.r (λ κs s. now (s .1 .1 .1 .0)) block-reads.Post
 one-block κs a x y s t p q = (p .after ∙ sym (q .after), p .stored ∙ sym (q .stored))
-

@@ -58,9 +58,9 @@ accepted-sound g words e = go (loadTold words) (sym (accept-sound-then g words) 
 pub accepts-exactly : (g : Registers) (words : List ℕ)
     → (acceptTold g words ≡ given (settingOf (applied g words))) ↔ (Loadable words × EveryRule (applied g words))
 accepts-exactly g words = (
-    λ e. let p = accepted-both g words _ e in (loads-exactly words .0 (p .0), exactly (applied g words) .0 (p .1)),
-    λ h. both-accepted g words _ (loads-exactly words .1 (h .0)) (exactly (applied g words) .1 (h .1)),
-  )
+  λ e. let p = accepted-both g words _ e in (loads-exactly words .0 (p .0), exactly (applied g words) .0 (p .1)),
+  λ h. both-accepted g words _ (loads-exactly words .1 (h .0)) (exactly (applied g words) .1 (h .1)),
+)
 
 -- In two halves: what is accepted whole is accepted of the first half's record, and the other way about where there are not too many words.
 module _ (g : Registers) (xs ys : List ℕ) (s : Setting) where

@@ -50,9 +50,9 @@ passes-load ws few lead = passes-given tt (loadTable ws) (le-ltb _ _ few ⨾ le-
 -- a list is loaded exactly where it can be
 pub loads-exactly : (ws : List ℕ) → (loadTold ws ≡ given tt) ↔ Loadable ws
 loads-exactly ws = (
-    λ e. let p = load-passes ws e in record { few = p .0; named = all-lead ws (p .1) },
-    λ l. passes-load ws (l .few) (none-reserved ws (l .named)),
-  )
+  λ e. let p = load-passes ws e in record { few = p .0; named = all-lead ws (p .1) },
+  λ l. passes-load ws (l .few) (none-reserved ws (l .named)),
+)
 
 lead-halves : (xs ys : List ℕ) → length (xs ++ ys) ≤ leading (xs ++ ys) → (length xs ≤ leading xs) × (length ys ≤ leading ys)
 lead-halves [] ys h = (omega arith, h)

@@ -3,8 +3,9 @@ use crate::check::Checked;
 use crate::record::Loaded;
 use crate::record::Registers;
 use refusals::Answer;
+use refusals::Refusal;
 ghost use mathlib.Core.Path.{_≡_};
-ghost use Rattle.refusals.specs.Refusals.{answerSays};
+ghost use Rattle.refusals.specs.Refusals.{refusal, answerSays};
 ghost use Rattle.registers.specs.Accept.{acceptTold, acceptSoundTold, handedBack};
 ghost use Rattle.registers.specs.Check.{checkSays};
 
@@ -12,6 +13,15 @@ ghost use Rattle.registers.specs.Check.{checkSays};
 pub struct Verdict {
     pub registers: Registers,
     pub checked: Checked,
+}
+
+fn not_accepted(given: Registers, why: Refusal) -> Verdict
+    ensures { λ r. ⌜ (checkSays (r .checked) ≡ refusal why) × (r .registers ≡ given) ⌝ }
+{
+    Verdict {
+        registers: given,
+        checked: Checked::Refused(why),
+    }
 }
 
 impl Registers {
@@ -26,15 +36,9 @@ impl Registers {
         let registers = loaded.registers;
         let answer = loaded.answer;
         match answer {
-            Answer::Refused(why) => Verdict {
-                registers: self,
-                checked: Checked::Refused(why),
-            },
+            Answer::Refused(why) => not_accepted(self, why),
             Answer::Done => match registers.check() {
-                Checked::Refused(why) => Verdict {
-                    registers: self,
-                    checked: Checked::Refused(why),
-                },
+                Checked::Refused(why) => not_accepted(self, why),
                 Checked::Accepted(setting) => Verdict {
                     registers: registers,
                     checked: Checked::Accepted(setting),

@@ -45,12 +45,7 @@ fn tally_parts(parts: Parts, words: &[u32], threshold: u8)
     let checked = verdict.checked;
     match checked {
         Checked::Refused(why) => say_refused(why),
-        Checked::Accepted(_) => tally(
-            g,
-            &words[video..cursor],
-            &words[cursor..sound],
-            threshold,
-        ),
+        Checked::Accepted(_) => tally(g, &words[video..cursor], &words[cursor..sound], threshold),
     }
 }
 
