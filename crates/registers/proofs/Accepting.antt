@@ -1,9 +1,10 @@
 -- Load and check, by its two parts: what the load refuses is never checked, and what it passes is told as the check of the loaded record tells it.
 use Prim.Native.Nat.{ℕ, _≤_}
 use mathlib.Core.Path.{_≡_, refl, sym, _∙_, ap}
-use mathlib.Core.List.{List, [], _++_}
+use mathlib.Core.List.{List, [], _∷_, _++_}
 use mathlib.Core.Logic.{_↔_}
 use lib.ListN.{length}
+use native.Mathlib.Omega.{arith}
 use Rattle.refusals.specs.Table.{Told, given, refused, andThen, unlessRefused}
 use Rattle.refusals.specs.Refusals.{refusal, answerSays}
 use Rattle.refusals.specs.declared.Refusal.{Refusal}
@@ -34,6 +35,18 @@ module _ (g : Registers) (words : List ℕ) where
 pub accept-none : (g : Registers) → acceptTold g [] ≡ checkTold g
 unfolding acceptTold checkTold applied leading
 accept-none g = refl
+
+-- A list of no words is that list, and the record is then handed back as it was given either way.
+module _ (g : Registers) where
+  handed-none : {A : Type 0} (told : Told A) → g ≡ handedBack told g []
+  unfolding applied
+  handed-none (given a) = refl
+  handed-none (refused w) = refl
+
+  pub stands : (words : List ℕ) → length words ≡ 0 → (t : Told Setting) → t ≡ checkTold g
+      → (t ≡ acceptTold g words) × (g ≡ handedBack (acceptTold g words) g words)
+  stands [] n t e = (e ∙ sym (accept-none g), handed-none (acceptTold g []))
+  stands (w ∷ ws) n t e = absurd (omega arith)
 
 -- Accepted: the list can be loaded, and the record that it leaves is.
 module _ (g : Registers) (words : List ℕ) (s : Setting) where
@@ -74,15 +87,14 @@ module _ (g : Registers) (xs ys : List ℕ) (s : Setting) where
       let p = accepted-both (applied g xs) ys s e in
       both-accepted g (xs ++ ys) s (halves-load xs ys few first (p .0)) (rw (applied-halves g xs ys) (p .1))
 
--- The record handed back, by the load's own promise and what is told of the record that it leaves: as it was given on a refusal, else as it was left.
+-- The record handed back, by what is told of the list and of the record that it leaves: as it was given on a refusal, else with the words applied.
 module _ {A : Type 0} (g : Registers) (words : List ℕ) (told : Told A) (next : Registers → Told A)
-    (follows : told ≡ andThen (loadTold words) (λ _. next (applied g words))) (x : Answer) (r : Registers)
-    (answers : answerSays x ≡ loadTold words) (leaves : r ≡ unlessRefused (loadTold words) g (applied g words)) where
+    (follows : told ≡ andThen (loadTold words) (λ _. next (applied g words))) (x : Answer) (answers : answerSays x ≡ loadTold words) where
   pub unloaded : (w : Refusal) → x ≡ Refused w → (refusal w ≡ told) × (g ≡ handedBack told g words)
   unloaded w q = let e : told ≡ refusal w = follows ∙ rw (← answers, q) in (sym e, rw e)
 
-  pub loaded : x ≡ Done → (t : Told A) → t ≡ next r → (t ≡ told) × (unlessRefused t g r ≡ handedBack told g words)
-  loaded q t n =
-      let left : r ≡ applied g words = leaves ∙ rw (← answers, q) in
+  pub loaded : x ≡ Done → (r : Registers) → r ≡ applied g words → (t : Told A) → t ≡ next r
+      → (t ≡ told) × (unlessRefused t g r ≡ handedBack told g words)
+  loaded q r left t n =
       let e : t ≡ told = n ∙ ap next left ∙ sym (follows ∙ rw (← answers, q)) in
       (e, rw (e, left))

@@ -1,7 +1,7 @@
 -- A list in two halves: it can be loaded exactly where both can and there are not too many words, and what it leaves is what the second half leaves of
 -- what the first left. So a list that is accepted whole is accepted from there on.
 use Prim.Native.Nat.{ℕ, zero, suc, _+_, _<_, _≤_}
-use mathlib.Core.Path.{_≡_, refl, sym, _∙_, ap}
+use mathlib.Core.Path.{_≡_, refl}
 use mathlib.Core.Bool.{Bool, true, false}
 use mathlib.Core.List.{List, [], _∷_, _++_}
 use mathlib.Core.Logic.{_↔_}

@@ -1,11 +1,9 @@
 -- What each call tells is its table judged, as it is defined; and what a check's answer tells determines the answer.
-use Prim.Native.Nat.{ℕ}
 use mathlib.Core.Path.{_≡_, refl, sym, ap}
 use mathlib.Core.List.{List, _++_}
 use Rattle.refusals.specs.Table.{given, Row, judged, andThen, Passes}
 use Rattle.refusals.proofs.Tables.{never, passes-first, passes-given, and-then-judged}
 use Rattle.refusals.proofs.Told.{same-refusal}
-use Rattle.registers.specs.Load.{loadTable, loadTold}
 use Rattle.registers.specs.Setting.{settingOf}
 use Rattle.registers.specs.Check.{checkSays, settingTable, checkTold}
 use Rattle.registers.specs.Sound.{soundTable, soundTold}
@@ -13,10 +11,6 @@ use Rattle.registers.specs.declared.record.Registers.{Registers}
 use Rattle.registers.specs.declared.setting.Setting.{Setting}
 use Rattle.registers.specs.declared.check.Checked.{Checked}
 use Rattle.registers.specs.declared.check.Checked.the-variants.{Accepted, Refused}
-
-pub load-told : (words : List ℕ) → loadTold words ≡ judged (loadTable words) tt
-unfolding loadTold
-load-told words = refl
 
 module _ (g : Registers) where
   pub check-told : checkTold g ≡ judged (settingTable g) (settingOf g)

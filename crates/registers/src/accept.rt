@@ -1,5 +1,7 @@
 // Load and check: the record that a list leaves where it is accepted, else the record as it came. No list is loaded without being judged.
 use crate::check::Checked;
+use crate::load::apply;
+use crate::load::judge_words;
 use crate::record::Loaded;
 use crate::record::Registers;
 use refusals::Answer;
@@ -24,6 +26,15 @@ fn not_accepted(given: Registers, why: Refusal) -> Verdict
     }
 }
 
+fn not_loaded(given: Registers, why: Refusal) -> Loaded
+    ensures { λ r. ⌜ (answerSays (r .answer) ≡ refusal why) × (r .registers ≡ given) ⌝ }
+{
+    Loaded {
+        registers: given,
+        answer: Answer::Refused(why),
+    }
+}
+
 impl Registers {
     // The words applied to this record, and what they leave checked: 1, 2, then 3 to 6, 19, 7 to 9.
     pub fn load_and_check(self, words: &[u32]) -> Verdict
@@ -32,18 +43,26 @@ impl Registers {
             × (r .registers ≡ handedBack (acceptTold self (now (words .entry))) self (now (words .entry)))
             ⌝ }
     {
-        let loaded = self.load(words);
-        let registers = loaded.registers;
-        let answer = loaded.answer;
-        match answer {
+        // what every picture call asks: nothing is stored, so no copy is made of the record
+        if words.len() == 0 {
+            let checked = self.check();
+            return Verdict {
+                registers: self,
+                checked: checked,
+            };
+        }
+        match judge_words(words) {
             Answer::Refused(why) => not_accepted(self, why),
-            Answer::Done => match registers.check() {
-                Checked::Refused(why) => not_accepted(self, why),
-                Checked::Accepted(setting) => Verdict {
-                    registers: registers,
-                    checked: Checked::Accepted(setting),
-                },
-            },
+            Answer::Done => {
+                let registers = apply(self, words);
+                match registers.check() {
+                    Checked::Refused(why) => not_accepted(self, why),
+                    Checked::Accepted(setting) => Verdict {
+                        registers: registers,
+                        checked: Checked::Accepted(setting),
+                    },
+                }
+            }
         }
     }
 
@@ -54,24 +73,18 @@ impl Registers {
             × (r .registers ≡ handedBack (acceptSoundTold self (now (words .entry))) self (now (words .entry)))
             ⌝ }
     {
-        let loaded = self.load(words);
-        let registers = loaded.registers;
-        let answer = loaded.answer;
-        match answer {
-            Answer::Refused(why) => Loaded {
-                registers: self,
-                answer: Answer::Refused(why),
-            },
-            Answer::Done => match registers.check_sound() {
-                Answer::Refused(why) => Loaded {
-                    registers: self,
-                    answer: Answer::Refused(why),
-                },
-                Answer::Done => Loaded {
-                    registers: registers,
-                    answer: Answer::Done,
-                },
-            },
+        match judge_words(words) {
+            Answer::Refused(why) => not_loaded(self, why),
+            Answer::Done => {
+                let registers = apply(self, words);
+                match registers.check_sound() {
+                    Answer::Refused(why) => not_loaded(self, why),
+                    Answer::Done => Loaded {
+                        registers: registers,
+                        answer: Answer::Done,
+                    },
+                }
+            }
         }
     }
 }

@@ -1,4 +1,5 @@
-// Judging a setting: refusals 3 to 9 in ascending order with 19 behind 6, or the accepted setting.
+// Judging a setting: refusals 3 to 9 in ascending order with 19 behind 6, or the accepted setting. Outside this crate a record is checked by
+// `load_and_check` alone.
 use crate::lowest::Fault;
 use crate::lowest::lowest;
 use crate::record::Registers;

@@ -1,11 +1,10 @@
-// Loading a list of register words: all of it, in order, or nothing.
-use crate::record::Loaded;
+// The two parts of loading a list of register words: whether it can be loaded, and all of it stored, in order. Outside this crate a list is loaded
+// by the calls of `accept` alone.
 use crate::record::Registers;
 use crate::record::is_reserved;
 use refusals::Answer;
 use refusals::Refusal;
 ghost use mathlib.Core.Path.{_≡_};
-ghost use Rattle.refusals.specs.Table.{unlessRefused};
 ghost use Rattle.refusals.specs.Refusals.{answerSays};
 ghost use Rattle.registers.specs.Load.{leading, applied, loadTold};
 
@@ -24,7 +23,7 @@ fn first_reserved(words: &[u32]) -> usize
 }
 
 // Every word stored, in order.
-fn apply(registers: Registers, words: &[u32]) -> Registers
+pub fn apply(registers: Registers, words: &[u32]) -> Registers
     ensures { λ r. ⌜ r ≡ applied registers (now (words .entry)) ⌝ }
 {
     let mut g = registers;
@@ -36,30 +35,16 @@ fn apply(registers: Registers, words: &[u32]) -> Registers
     g
 }
 
-impl Registers {
-    // The words applied to this record, or a refusal beside the record as it came.
-    pub(crate) fn load(self, words: &[u32]) -> Loaded
-        ensures { λ r. ⌜
-            (answerSays (r .answer) ≡ loadTold (now (words .entry)))
-            × (r .registers ≡ unlessRefused (loadTold (now (words .entry))) self (applied self (now (words .entry))))
-            ⌝ }
-    {
-        if words.len() > Self::MOST_WORDS {
-            return Loaded {
-                registers: self,
-                answer: Answer::Refused(Refusal::TooManyWords),
-            };
-        }
-        let first = first_reserved(words);
-        if first < words.len() {
-            return Loaded {
-                registers: self,
-                answer: Answer::Refused(Refusal::Reserved(first as u32)),
-            };
-        }
-        Loaded {
-            registers: apply(self, words),
-            answer: Answer::Done,
-        }
+// Whether a list can be loaded, into whatever record: 1, 2.
+pub fn judge_words(words: &[u32]) -> Answer
+    ensures { λ r. ⌜ answerSays r ≡ loadTold (now (words .entry)) ⌝ }
+{
+    if words.len() > Registers::MOST_WORDS {
+        return Answer::Refused(Refusal::TooManyWords);
     }
+    let first = first_reserved(words);
+    if first < words.len() {
+        return Answer::Refused(Refusal::Reserved(first as u32));
+    }
+    Answer::Done
 }

@@ -147,6 +147,3 @@ module _ (file o new : List ℕ) (z : Taken)
   module _ (room : 16384 ≤ length o) (q : z .answer ≡ answer.Done) where
     pub input-lists : (z .parts .video ≤ z .parts .cursor) × (z .parts .cursor ≤ z .parts .sound) × (z .parts .sound ≤ length new)
     input-lists = let h = input-held room q in (h .video-first, h .cursor-first, omega (arith, h .sound-first, h .inside))
-
-    pub input-sounds : (z .parts .sound ≤ z .parts .end) × (z .parts .end ≤ length new)
-    input-sounds = let h = input-held room q in (h .sound-first, h .inside)

@@ -8,6 +8,7 @@ use refusals::Answer;
 use refusals::Refusal;
 use registers::check::Checked;
 use registers::record::Registers;
+use registers::setting::Setting;
 use said::say_entries;
 use said::write;
 use sheets::Parts;
@@ -25,11 +26,11 @@ fn say_refused(why: Refusal) {
 }
 
 // No frame has more than 1,024 rasters.
-fn tally(g: Registers, video: &[u32], cursor: &[u32], threshold: u8) {
+fn tally(g: Registers, s: Setting, video: &[u32], cursor: &[u32], threshold: u8) {
     let mut numbers = [0u16; 3072];
     match summaries(g, video, cursor, threshold, &mut numbers) {
         Answer::Refused(why) => say_refused(why),
-        Answer::Done => say_entries(g.setting(), &numbers),
+        Answer::Done => say_entries(s, &numbers),
     }
 }
 
@@ -45,7 +46,13 @@ fn tally_parts(parts: Parts, words: &[u32], threshold: u8)
     let checked = verdict.checked;
     match checked {
         Checked::Refused(why) => say_refused(why),
-        Checked::Accepted(_) => tally(g, &words[video..cursor], &words[cursor..sound], threshold),
+        Checked::Accepted(s) => tally(
+            g,
+            s,
+            &words[video..cursor],
+            &words[cursor..sound],
+            threshold,
+        ),
     }
 }
 

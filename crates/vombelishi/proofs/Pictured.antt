@@ -1,9 +1,9 @@
 -- Pictures of a record that C holds: the slices are no record and nothing else is looked at, or the call of the record answers.
 use Prim.Native.Nat.{ℕ}
-use mathlib.Core.Path.{_≡_, sym, _∙_, ap}
-use mathlib.Core.Bool.{Bool, true, false}
+use mathlib.Core.Path.{_≡_, _∙_, ap}
+use mathlib.Core.Bool.{true, false}
 use mathlib.Core.List.{List, [], _∷_}
-use Rattle.refusals.specs.Table.{Told, given, andThen, row, judged}
+use Rattle.refusals.specs.Table.{Told, given, andThen}
 use Rattle.registers.specs.Load.{applied}
 use Rattle.registers.specs.declared.record.Registers.{Registers}
 use Rattle.registers.specs.declared.setting.Setting.{Setting}

@@ -24,7 +24,8 @@ words-wrong-requires c κs = search needs
 returns : tie.Need-returns
 returns c =
     let given = c .before .before .before in
-    judge-wrong _ _ _ _ (given .before .before .load-and-check .ensures .0 ∙ accept-none _) _ (given .checked2 .given .1) (sym (c .before .words-wrong .ensures) ∙ c .if1 .taken)
+    judge-wrong _ _ _ _ (given .before .before .load-and-check .ensures .0 ∙ accept-none _) _ (given .checked2 .given .1)
+    (sym (c .before .words-wrong .ensures) ∙ c .if1 .taken)
 
 returns-2 : tie.Need-returns-2
 returns-2 c = judge-refused _ _ _ _ (c .before .before .before .load-and-check .ensures .0 ∙ accept-none _) _ (c .before .checked .given .1)
@@ -32,7 +33,8 @@ returns-2 c = judge-refused _ _ _ _ (c .before .before .before .load-and-check .
 returns-3 : tie.Need-returns-3
 returns-3 c =
     let given = c .before .before .before in
-    judge-right _ _ _ _ (given .before .before .load-and-check .ensures .0 ∙ accept-none _) _ (given .checked2 .given .1) (sym (c .before .words-wrong .ensures) ∙ c .if1 .left)
+    judge-right _ _ _ _ (given .before .before .load-and-check .ensures .0 ∙ accept-none _) _ (given .checked2 .given .1)
+    (sym (c .before .words-wrong .ensures) ∙ c .if1 .left)
 
 pub judge-spec : {M : Type 1} → statement M
 judge-spec =

@@ -36,7 +36,8 @@ returns-2 c =
     let s = c .before .before .before .before .before .before .before .before .before .before .before .before in
     let judged = c .before .before .judged-mix in
     mix-judged (s .args .g) (s .args .cells .now) (s .args .camera .now) (s .args .out .now) _
-    (sym (given .before .before .load-and-check .ensures .0 ∙ accept-none _) ∙ ap checkSays (given .checked2 .given .1)) _ _ (judged .ensures .0) (judged .ensures .1)
+    (sym (given .before .before .load-and-check .ensures .0 ∙ accept-none _) ∙ ap checkSays (given .checked2 .given .1)) _ _
+    (judged .ensures .0) (judged .ensures .1)
 
 pub mix-spec : {M : Type 1} → statement M
 mix-spec =

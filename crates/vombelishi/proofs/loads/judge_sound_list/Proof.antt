@@ -28,8 +28,8 @@ returns-2 : tie.Need-returns-2
 unfolding acceptSoundCall
 returns-2 c =
     let words = c .before .before .before .before .before .before .before .args .words .now in
-    told-by _ _ (λ g. acceptSoundTold g words) _ _ (sym (c .before .before .before .lacks .ensures) ∙ c .before .before .if1 .left) (c .before .record-of .ensures)
-    (c .load-and-check-sound .ensures .0)
+    told-by _ _ (λ g. acceptSoundTold g words) _ _ (sym (c .before .before .before .lacks .ensures) ∙ c .before .before .if1 .left)
+    (c .before .record-of .ensures) (c .load-and-check-sound .ensures .0)
 
 pub judge-sound-list-spec : {M : Type 1} → statement M
 judge-sound-list-spec =

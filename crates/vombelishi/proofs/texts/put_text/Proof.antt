@@ -56,18 +56,20 @@ slice-aggregate-put-parts c =
 
 put-parts-requires : tie.Need-put-parts-requires
 put-parts-requires c κs =
-    let s = c .before .before .before .before .before .before .before .before .before .before .before .before .before .before .before .before in
-    let taken = c .before .before .before .before .before .before .before .before .before .before .before .before .take-input in
-    input-lists (s .args .file .now) _ _ (taken .result) (taken .ensures) (search needs) (c .before .before .before .before .before .before .before .before .before .enum-told .given .1)
+    let done = c .before .before .before .before .before .before .before .before .before in
+    let taken = done .before .before .before in
+    let s = taken .before .before .before .before in
+    input-lists (s .args .file .now) _ _ (taken .take-input .result) (taken .take-input .ensures) (search needs) (done .enum-told .given .1)
 
 same-length : tie.Need-same-length
 same-length c = search needs
 
 returns : tie.Need-returns
 returns c =
-    let s = c .before .before .before .before .before .before .before .before .before .before .before .before in
-    let taken = c .before .before .before .before .before .before .before .before .take-input in
-    let same = text-untaken (s .args .file .now) _ _ (taken .result) (taken .ensures) _ (c .before .before .before .before .before .answer .given .1) in
+    let why = c .before .before .before .before .before in
+    let taken = why .before .before .before in
+    let s = taken .before .before .before .before in
+    let same = text-untaken (s .args .file .now) _ _ (taken .take-input .result) (taken .take-input .ensures) _ (why .answer .given .1) in
     rw same (c .before .before .refused .ensures)
 
 same-length-2 : tie.Need-same-length-2
@@ -75,13 +77,15 @@ same-length-2 c = search needs
 
 returns-2 : tie.Need-returns-2
 returns-2 c =
-    let s = c .before .before .before .before .before .before .before .before .before .before .before .before .before .before .before .before .before .before .before in
-    let taken = c .before .before .before .before .before .before .before .before .before .before .before .before .before .before .before .take-input in
-    let done = c .before .before .before .before .before .before .before .before .before .before .before .before .enum-told .given .1 in
-    let verdict = c .before .before .before .before .before .before .before .before .load-and-check in
+    let why = c .before .before .before .before .before in
+    let verdict = why .before .before .before in
+    let fresh = verdict .before .before .before in
+    let done = fresh .before in
+    let taken = done .before .before .before in
+    let s = taken .before .before .before .before in
     let same =
-    text-unaccepted (s .args .file .now) _ _ (taken .result) (taken .ensures) (search needs) done _ (c .before .before .before .before .before .before .before .before .before .before .before .new .ensures) _ (verdict .ensures .0) _
-    (c .before .before .before .before .before .checked .given .1) in
+    text-unaccepted (s .args .file .now) _ _ (taken .take-input .result) (taken .take-input .ensures) (search needs) (done .enum-told .given .1)
+    _ (fresh .new .ensures) _ (verdict .load-and-check .ensures .0) _ (why .checked .given .1) in
     rw same (c .before .before .refused2 .ensures)
 
 same-length-3 : tie.Need-same-length-3
@@ -89,13 +93,15 @@ same-length-3 c = search needs
 
 returns-3 : tie.Need-returns-3
 returns-3 c =
-    let s = c .before .before .before .before .before .before .before .before .before .before .before .before .before .before .before .before .before .before .before in
-    let taken = c .before .before .before .before .before .before .before .before .before .before .before .before .before .before .before .take-input in
-    let done = c .before .before .before .before .before .before .before .before .before .before .before .before .enum-told .given .1 in
-    let verdict = c .before .before .before .before .before .before .before .before .load-and-check in
+    let given = c .before .before .before .before .before in
+    let verdict = given .before .before .before in
+    let fresh = verdict .before .before .before in
+    let done = fresh .before in
+    let taken = done .before .before .before in
+    let s = taken .before .before .before .before in
     let same =
-    text-held (s .args .file .now) _ _ (taken .result) (taken .ensures) (search needs) done _ (c .before .before .before .before .before .before .before .before .before .before .before .new .ensures) _ (verdict .ensures .0) _
-    (c .before .before .before .before .before .enum-told2 .given .1) _ (verdict .ensures .1) in
+    text-held (s .args .file .now) _ _ (taken .take-input .result) (taken .take-input .ensures) (search needs) (done .enum-told .given .1)
+    _ (fresh .new .ensures) _ (verdict .load-and-check .ensures .0) _ (given .enum-told2 .given .1) _ (verdict .load-and-check .ensures .1) in
     rw (← same) (c .before .before .put-parts .ensures)
 
 pub put-text-spec : {M : Type 1} → statement M
