@@ -1,4 +1,6 @@
 // What lent memory holds, and the laws about it (specs/ and proofs/), for every crate above; and the little code that several of them share.
+#![tactic(auto)]
+
 ghost use Rattle.std.specs.Prelude.{◌≡◌, [], ◌∷◌, ◌+◌, ◌*◌, ◌-◌, ◌≤◌, min, length, take};
 ghost use Rattle.std.proofs.lemmas.List.Edits.{sets};
 ghost use Rattle.buffers.specs.Put.{text_in};

@@ -1,4 +1,6 @@
 // The table of refusals: a named case for each row, and the paper's number and detail of each.
+#![tactic(auto)]
+
 ghost use Rattle.std.specs.Prelude.{◌≡◌};
 ghost use Rattle.refusals.specs.Refusals.{why_of};
 
