@@ -4,7 +4,7 @@ ghost use Rattle.colours.specs.Apart.{apart_of, both_of};
 ghost use Rattle.colours.specs.Cells.{cell_with};
 
 // A colour of 12 bits, and whether it has supremacy.
-#[derive(Drop)]
+#[derive(Clone, Copy)]
 pub struct Apart {
     pub colour: u16,
     pub supremacy: bool,

@@ -19,7 +19,7 @@ use Rattle.cells.specs.Cell.{within, covered}
 use Rattle.cells.specs.inner.Region.{Reached}
 use Rattle.cells.proofs.Regions.{within_true, true_within, covered_reached, reached_covered}
 use Rattle.registers.specs.inner.Accepted.{Accepted}
-use Rattle.registers.proofs.Accepted.{cursor_words}
+use Rattle.registers.proofs.Accepted.{cursor_words_holds}
 use Rattle.frame.specs.inner.Lent.{RasterLent}
 use Rattle.frame.specs.inner.Ink.{pair_in, pair_ink, cover_ink}
 
@@ -62,7 +62,7 @@ pointed_rows s y e =
 -- The pairs of raster y lie in the cursor's words.
 pub pairs_lie : {s : Setting} {at : ℕ} {cursor out : List ℕ} (y : ℕ) → RasterLent s at (cursor_words s) cursor out
     → s.cursor ≡ true → s.vcs.0 ≤ y → y < s.vce.0 → 2 * (y - s.vcs.0) + 2 ≤ length cursor
-pairs_lie {s} y p on above below = rw (p.enough, cursor_words s on) (omega arith)
+pairs_lie {s} y p on above below = rw (p.enough, cursor_words_holds s on) (omega arith)
 
 module _ (s : Setting) (r : Accepted s) (pens cursor o : List ℕ) (at y : ℕ) (room : at + s.n.0 ≤ length o) where
   -- What stands there already, where nothing is covered.

@@ -18,7 +18,7 @@ use Rattle.registers.specs.Setting.{display_on, raster_words, video_words, curso
 use Rattle.registers.specs.declared.record.Registers.{Registers}
 use Rattle.registers.specs.declared.setting.Setting.{Setting}
 use Rattle.registers.specs.inner.Accepted.{Depth, Accepted}
-use Rattle.registers.proofs.Accepted.{video_off, cursor_off, cursor_words}
+use Rattle.registers.proofs.Accepted.{video_off, cursor_off, cursor_words_holds}
 use Rattle.registers.proofs.Words.{raster_bits, video_rasters, depth_least}
 use Rattle.queues.specs.declared.Queue.{Queue}
 use Rattle.colours.proofs.Bounds.{picked_below}
@@ -97,14 +97,14 @@ module _ (s : Setting) where
   pub cursor_byte : (x y : ℕ) → in_cursor s x y ≡ true → byte_used 2 (cursor_position s x y) < 4 * cursor_words s
   cursor_byte x y e =
       let i = in_cursor_holds s x y e in
-      omega (arith, cursor_words s i.0, i.1.0, i.1.1, i.2.0, i.2.1)
+      omega (arith, cursor_words_holds s i.0, i.1.0, i.1.1, i.2.0, i.2.1)
 
   pub cursor_used : (k : ℕ) → k < 4 * cursor_words s
       → (x : ℕ) × (y : ℕ) × (in_cursor s x y ≡ true) × (byte_used 2 (cursor_position s x y) ≡ k)
   cursor_used k less =
       let x = s.cx.0 + 4 * (k % 8) in
       let y = s.vcs.0 + k / 8 in
-      let rows = true_within s.vcs.0 s.vce.0 y (omega arith) (omega (arith, cursor_words s on)) in
+      let rows = true_within s.vcs.0 s.vce.0 y (omega arith) (omega (arith, cursor_words_holds s on)) in
       (x, y, and_join (and_join on rows) (true_within s.cx.0 (s.cx.0 + 32) x (omega arith) (omega arith)), omega arith)
     where
       on : s.cursor ≡ true

@@ -1,7 +1,7 @@
 // A line of text for standard output, put together piece by piece.
 use libc::STDOUT_FILENO;
 
-#[derive(Drop)]
+#[derive(Clone, Copy)]
 pub struct Line {
     // spaces from the end on
     letters: [u8; 256],

@@ -27,7 +27,7 @@ use queues::Reply;
 use std::num::wrapping_add_u32;
 
 // Over the frame: words asked for, words loaded, bytes read, and how many bytes were read up to the first that is not the frame's own.
-#[derive(Drop)]
+#[derive(Clone, Copy)]
 pub struct Totals {
     pub asked: u32,
     pub words: u32,
@@ -35,7 +35,7 @@ pub struct Totals {
     pub own: u32,
 }
 
-#[derive(Drop)]
+#[derive(Clone, Copy)]
 pub struct Bench {
     // the call that a tick makes, 0 vertical sync, 1 ask, 2 load, 3 read, 4 none yet; and its number
     pub what: u32,

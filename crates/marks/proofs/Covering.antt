@@ -17,7 +17,7 @@ use Rattle.buffers.proofs.Product.{product_below}
 use Rattle.registers.specs.Setting.{raster_words, video_words, cursor_words}
 use Rattle.registers.specs.declared.setting.Setting.{Setting}
 use Rattle.registers.specs.inner.Accepted.{Accepted}
-use Rattle.registers.proofs.Accepted.{cursor_off, cursor_words}
+use Rattle.registers.proofs.Accepted.{cursor_off, cursor_words_holds}
 use Rattle.registers.proofs.Words.{raster_bits, depth_least, depth_most, video_rasters, cursor_raster_holds}
 use Rattle.cells.specs.Pixel.{pixel, position, logical, cursor_pair}
 use Rattle.cells.specs.Cell.{in_display, plain_code, covered}
@@ -117,7 +117,7 @@ module _ (s : Setting) (video cursor pixels : List ℕ) (a : Accepted s) where
       → total (cursor_raster s video cursor pixels) (length cursor / 2) ≡ pick on (total (cursor_raster s video cursor pixels) (s.vce.0 - s.vcs.0)) 0
   unfolding total
   covered_by true on e =
-      let end : length cursor / 2 ≡ s.vce.0 - s.vcs.0 = omega (arith, e ∙ cursor_words s on) in
+      let end : length cursor / 2 ≡ s.vce.0 - s.vcs.0 = omega (arith, e ∙ cursor_words_holds s on) in
       ap (total (cursor_raster s video cursor pixels)) end
   covered_by false off e =
       let end : length cursor / 2 ≡ 0 = omega (arith, e ∙ cursor_off s off) in

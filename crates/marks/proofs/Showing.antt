@@ -11,7 +11,7 @@ use Rattle.buffers.proofs.Tests.{and_split}
 use Rattle.registers.specs.Setting.{cursor_words}
 use Rattle.registers.specs.declared.setting.Setting.{Setting}
 use Rattle.registers.specs.inner.Accepted.{Accepted}
-use Rattle.registers.proofs.Accepted.{cursor_words}
+use Rattle.registers.proofs.Accepted.{cursor_words_holds}
 use Rattle.cells.specs.Pixel.{logical, cursor_pair}
 use Rattle.cells.specs.Cell.{within, in_cursor, plain_code, covered}
 use Rattle.cells.specs.inner.Region.{InDisplay, Reached}
@@ -47,7 +47,7 @@ module _ (s : Setting) (cursor : List ℕ) (x y : ℕ) where
     pub pair_room : length cursor ≡ cursor_words s → (2 * (y - s.vcs.0) + 1 < length cursor) × (x - s.cx.0 < 32)
     pair_room e =
         let r = display_reached in
-        (omega (arith, e, cursor_words s r.on), omega arith)
+        (omega (arith, e, cursor_words_holds s r.on), omega arith)
 
     pub pair_covers : {pair : ℕ} → pair ≡ get_or cursor (2 * (y - s.vcs.0) + (x - s.cx.0) / 16) 0 / 2 ^ (2 * ((x - s.cx.0) % 16)) % 4
         → not (eqb pair 0) ≡ covered s cursor x y

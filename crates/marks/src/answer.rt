@@ -1,7 +1,7 @@
 // What the mark count answers.
 use refusals::Refusal;
 
-#[derive(Drop)]
+#[derive(Clone, Copy)]
 pub enum Marks {
     // the number of marks
     Count(u32),

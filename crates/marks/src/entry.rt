@@ -1,5 +1,5 @@
 // An entry: what is kept of one displayed raster.
-#[derive(Drop)]
+#[derive(Clone, Copy)]
 pub struct Entry {
     // the number of marks
     pub count: u16,

@@ -6,7 +6,7 @@ use registers::setting::Setting;
 use registers::units::{Pixels, Rasters};
 
 // Words of a raster, from one up to another.
-#[derive(Drop)]
+#[derive(Clone, Copy)]
 pub struct Part {
     pub from: usize,
     pub to: usize,

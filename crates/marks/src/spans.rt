@@ -7,7 +7,7 @@ ghost use Rattle.marks.specs.inner.Seen.{only, Flagged, Masks, word_mask, words_
 
 use crate::walk::in_word;
 
-#[derive(Drop)]
+#[derive(Clone, Copy)]
 struct Seen {
     count: u32,
     mask: u32,

@@ -5,7 +5,7 @@ use libc::{SEEK_CUR, SEEK_SET, STDERR_FILENO};
 use pictures::head::Head;
 
 // An open file, and the size that its picture must have.
-#[derive(Drop)]
+#[derive(Clone, Copy)]
 pub struct Camera {
     pub file: i32,
     pub n: u16,

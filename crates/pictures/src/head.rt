@@ -5,7 +5,7 @@ ghost use Rattle.pictures.specs.Head.{is_white, is_digit};
 ghost use Rattle.pictures.specs.HeadNext.{with_digit, number_asked, white_next, behind_next, head_next, whole_head, open_head};
 
 // What was read of it.
-#[derive(Drop)]
+#[derive(Clone, Copy)]
 pub enum Head {
     // Nothing; `P`; `P6`.
     Empty,

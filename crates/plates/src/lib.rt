@@ -20,7 +20,7 @@ pub const MOST_BYTES: usize = 4_194_304;
 const MOST_WORDS: usize = 1_048_572;
 
 // Where the sections of a plate lie.
-#[derive(Drop)]
+#[derive(Clone, Copy)]
 pub struct Sections {
     // where each section starts and where the trailer does, in bytes
     pub registers: usize,
@@ -35,13 +35,13 @@ pub struct Sections {
     pub s: u32,
 }
 
-#[derive(Drop)]
+#[derive(Clone, Copy)]
 pub enum Reading {
     Plate(Sections),
     Refused(Refusal),
 }
 
-#[derive(Drop)]
+#[derive(Clone, Copy)]
 pub enum Writing {
     // how many bytes were written
     Bytes(usize),

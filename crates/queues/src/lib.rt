@@ -6,7 +6,7 @@ pub mod syncs;
 
 // What a queue counts. Any numbers may stand here: a call first replaces a record that is not fit by a fresh one.
 #[repr(C)]
-#[derive(Drop)]
+#[derive(Clone, Copy)]
 pub struct Ring {
     // 0 video, eight words deep; 1 cursor, four; any other number sound, four
     pub kind: u16,
@@ -24,7 +24,7 @@ pub struct Ring {
 
 // One record for the three queues. One that is four words deep uses the first four.
 #[repr(C)]
-#[derive(Drop)]
+#[derive(Clone, Copy)]
 pub struct Queue {
     pub words: [u32; 8],
     pub ring: Ring,
@@ -32,7 +32,7 @@ pub struct Queue {
 
 // What every call answers, of the queue as the call leaves it.
 #[repr(C)]
-#[derive(Drop)]
+#[derive(Clone, Copy)]
 pub struct Reply {
     // words loaded since the last emptying
     pub count: u64,
@@ -46,7 +46,7 @@ pub struct Reply {
 
 // A step by value: the queue afterwards, and the answer.
 #[repr(C)]
-#[derive(Drop)]
+#[derive(Clone, Copy)]
 pub struct Step {
     pub queue: Queue,
     pub reply: Reply,

@@ -4,7 +4,7 @@
 ghost use Rattle.std.specs.Prelude.{◌≡◌};
 ghost use Rattle.refusals.specs.Refusals.{why_of};
 
-#[derive(Drop)]
+#[derive(Clone, Copy)]
 pub enum Refusal {
     // 1: more register words than a list may have
     TooManyWords,
@@ -49,7 +49,7 @@ pub enum Refusal {
 }
 
 // The number and the detail of a row.
-#[derive(Drop)]
+#[derive(Clone, Copy)]
 struct Numbers(u32, u32);
 
 impl Refusal {
@@ -94,7 +94,7 @@ impl Refusal {
 }
 
 // What a call that hands nothing else back answers.
-#[derive(Drop)]
+#[derive(Clone, Copy)]
 pub enum Answer {
     Done,
     Refused(Refusal),

@@ -81,6 +81,6 @@ module _ (s : Setting) where
   unfolding cursor_words
   cursor_off e = rw e
 
-  pub cursor_words : s.cursor ≡ true → cursor_words s ≡ 2 * (s.vce.0 - s.vcs.0)
+  pub cursor_words_holds : s.cursor ≡ true → cursor_words s ≡ 2 * (s.vce.0 - s.vcs.0)
   unfolding cursor_words
-  cursor_words e = rw e
+  cursor_words_holds e = rw e

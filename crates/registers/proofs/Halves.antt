@@ -1,6 +1,6 @@
 -- A list in two halves: it can be loaded exactly where both can and there are not too many words, and what it leaves is what the second half leaves of
 -- what the first left. So a list that is accepted whole is accepted from there on.
-use Prim.Native.Nat.{ℕ, zero, suc, ◌+◌, ◌<◌, ◌≤◌}
+use Prim.Native.Nat.{ℕ, zero, suc, ◌<◌, ◌≤◌}
 use mathlib.Core.Path.{◌≡◌, refl}
 use mathlib.Core.Bool.{Bool, true, false}
 use mathlib.Core.List.{List, [], ◌∷◌, ◌++◌}

@@ -8,7 +8,7 @@ use native.Mathlib.Omega.{arith}
 use Rattle.registers.specs.Setting.{display_on, raster_words, video_words, cursor_words}
 use Rattle.registers.specs.declared.setting.Setting.{Setting}
 use Rattle.registers.specs.inner.Accepted.{Depth, Accepted}
-use Rattle.registers.proofs.Accepted.{video_off, video_on, cursor_off, cursor_words}
+use Rattle.registers.proofs.Accepted.{video_off, video_on, cursor_off, cursor_words_holds}
 
 pub depth_least : {d : ℕ} → Depth d → 0 < d
 depth_least h = ⊎_elim (λ e. omega arith) (⊎_elim (λ e. omega arith) (⊎_elim (λ e. omega arith) (λ e. omega arith))) h
@@ -51,7 +51,7 @@ module _ (s : Setting) (a : Accepted s) where
   video_most = video_most_by (display_on s) refl
 
   cursor_most_by : (on : Bool) → s.cursor ≡ on → cursor_words s ≤ 2048
-  cursor_most_by true on = omega (arith, cursor_words s on, a.vce_most)
+  cursor_most_by true on = omega (arith, cursor_words_holds s on, a.vce_most)
   cursor_most_by false off = omega (arith, cursor_off s off)
 
   pub cursor_most : cursor_words s ≤ 2048
@@ -63,7 +63,7 @@ pub record CursorRaster (s : Setting) (j : ℕ) : Type 0 where
   pub y_vce : s.vcs.0 + j < s.vce.0
 
 cursor_raster_by : (s : Setting) (j : ℕ) (on : Bool) → s.cursor ≡ on → j < cursor_words s / 2 → CursorRaster s j
-cursor_raster_by s j true on l = record { on = on; y_vce = omega (arith, cursor_words s on) }
+cursor_raster_by s j true on l = record { on = on; y_vce = omega (arith, cursor_words_holds s on) }
 cursor_raster_by s j false off l = absurd (omega (arith, cursor_off s off))
 
 pub cursor_raster_holds : (s : Setting) (j : ℕ) → j < cursor_words s / 2 → CursorRaster s j

@@ -10,7 +10,7 @@ use crate::record::{Loaded, Registers};
 use refusals::{Answer, Refusal};
 
 // The accepted record beside its setting; where the list is refused, the record as it was given beside the reason.
-#[derive(Drop)]
+#[derive(Clone, Copy)]
 pub struct Verdict {
     pub registers: Registers,
     pub checked: Checked,

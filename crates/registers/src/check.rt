@@ -24,7 +24,7 @@ use crate::setting::Setting;
 use crate::units::Pixels;
 use refusals::{Answer, Refusal};
 
-#[derive(Drop)]
+#[derive(Clone, Copy)]
 pub enum Checked {
     Accepted(Setting),
     Refused(Refusal),

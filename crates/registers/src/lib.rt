@@ -1,4 +1,6 @@
 // The register library: words, the record, units, control, geometry, load and check.
+#![tactic(auto)]
+
 pub mod accept;
 pub mod addresses;
 pub mod check;

@@ -6,7 +6,7 @@ use crate::needed::lowest_missing;
 use crate::record::Registers;
 use crate::stereo::{lowest_sound_missing, lowest_sound_wrong};
 
-#[derive(Drop)]
+#[derive(Clone, Copy)]
 pub enum Fault {
     // needed by the setting and unwritten
     Unwritten,

@@ -6,14 +6,14 @@ ghost use Rattle.registers.specs.Record.{registers_by, fresh, stored_of, word_to
 
 use refusals::{Answer, Refusal};
 
-#[derive(Drop)]
+#[derive(Clone, Copy)]
 pub struct Registers {
     pub values: [u32; 64],
     pub written: [bool; 64],
 }
 
 // A record beside the answer of the call that made it: as it came, where the answer is a refusal.
-#[derive(Drop)]
+#[derive(Clone, Copy)]
 pub struct Loaded {
     pub registers: Registers,
     pub answer: Answer,

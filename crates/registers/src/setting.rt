@@ -5,7 +5,7 @@ ghost use Rattle.registers.specs.Setting.{setting_of, display_on, border_on, vid
 use crate::record::Registers;
 use crate::units::{Pixels, Rasters};
 
-#[derive(Drop)]
+#[derive(Clone, Copy)]
 pub struct Setting {
     pub n: Pixels,
     pub hs: Pixels,

@@ -3,15 +3,15 @@ ghost use Rattle.std.specs.Prelude.{◌≡◌, ◌-◌};
 ghost use Rattle.registers.specs.Units.{pixels_of, rasters_of};
 
 // A horizontal register's value: ten bits that count pairs of pixels.
-#[derive(Drop)]
+#[derive(Clone, Copy)]
 pub struct Pairs(pub u16);
 
 // A pixel position in a raster, or a width in pixels.
-#[derive(Drop)]
+#[derive(Clone, Copy)]
 pub struct Pixels(pub u16);
 
 // A raster's number in a frame, or a count of rasters.
-#[derive(Drop)]
+#[derive(Clone, Copy)]
 pub struct Rasters(pub u16);
 
 impl Pairs {

@@ -10,7 +10,7 @@ use plates::Reading;
 use refusals::{Answer, Refusal};
 
 // Where a plate's video, cursor and sound words start among all its words, and where they end. Its register words come first.
-#[derive(Drop)]
+#[derive(Clone, Copy)]
 pub struct Parts {
     pub video: usize,
     pub cursor: usize,
@@ -19,7 +19,7 @@ pub struct Parts {
 }
 
 // The parts are zeros where the answer is a refusal.
-#[derive(Drop)]
+#[derive(Clone, Copy)]
 pub struct Taken {
     pub parts: Parts,
     pub answer: Answer,

@@ -15,20 +15,20 @@ use sixths::{left_of, right_of, sixths};
 use values::play_words;
 
 // The counter after the last byte, or as it came where the answer is a refusal.
-#[derive(Drop)]
+#[derive(Clone, Copy)]
 pub struct Played {
     pub counter: u32,
     pub answer: Answer,
 }
 
 // One byte's two values, in sixths.
-#[derive(Drop)]
+#[derive(Clone, Copy)]
 pub struct Sides {
     pub left: i16,
     pub right: i16,
 }
 
-#[derive(Drop)]
+#[derive(Clone, Copy)]
 pub enum Pairing {
     Given(Sides),
     Refused(Refusal),

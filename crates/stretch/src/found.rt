@@ -10,13 +10,13 @@ use registers::record::Registers;
 use registers::setting::Setting;
 use registers::units::Rasters;
 
-#[derive(Drop)]
+#[derive(Clone, Copy)]
 pub struct Stretch {
     pub start: usize,
     pub count: usize,
 }
 
-#[derive(Drop)]
+#[derive(Clone, Copy)]
 pub enum Found {
     At(Stretch),
     Refused(Refusal),

@@ -1,7 +1,7 @@
 // The threshold that the program was started with.
 ghost use Rattle.std.specs.Prelude.{◌≤◌};
 
-#[derive(Drop)]
+#[derive(Clone, Copy)]
 pub enum Threshold {
     Is(u8),
     Wrong,
