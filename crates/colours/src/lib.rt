@@ -1,4 +1,6 @@
 // The colour of a logical pixel, its grey, and the level of the sync pin.
+#![tactic(auto)]
+
 pub mod apart;
 
 ghost use Rattle.std.specs.Prelude.{◌≡◌};
