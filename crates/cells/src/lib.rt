@@ -1,4 +1,6 @@
 // What every picture call judges first: the setting, then whether there are as many words as its frame needs.
+#![tactic(auto)]
+
 ghost use Rattle.std.specs.Prelude.{◌≡◌};
 ghost use Rattle.registers.specs.Check.{check_says};
 ghost use Rattle.cells.specs.Picture.{words_wrong, picture_told};
