@@ -1,4 +1,6 @@
 // The picture: every cell of the frame, by one rule.
+#![tactic(auto)]
+
 ghost use Rattle.std.specs.Prelude.{◌≡◌, length};
 ghost use Rattle.refusals.specs.Refusals.{answer_says};
 ghost use Rattle.frame.specs.Frame.{frame_told, frame_leaves, raster_told, raster_leaves};
