@@ -1,4 +1,6 @@
 // Marks, without a frame: bright display cells counted over the frame, and per raster, with the least and the greatest grey.
+#![tactic(auto)]
+
 pub mod answer;
 mod count;
 mod cover;
