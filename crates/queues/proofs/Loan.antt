@@ -4,11 +4,11 @@ use mathlib.Core.Path.{◌≡◌, refl, ap, sym, subst}
 use Prim.Native.Nat.{ℕ, ◌<◌, ◌^◌}
 use mathlib.Core.List.{[], ◌∷◌, List}
 use seplogic.Ra.Ura.{Ura}
-use seplogic.Ra.TreeShare.{full_share}
-use mir.Syntax.{Name, Place, Opd as Operand, named, w32, call}
+use base.Fraction.{full_share}
+use mir.Syntax.{Callee, Place, Opd as Operand, named, w32, call}
 use mir.Val.{Val, vint, vptr}
 use base.Logic.{ent, sep, id⊢}
-use base.Fml.{GName, Fml, ftrue, fsep, flft, fres, flent, fat, froom}
+use base.Fml.{GName, Fml, ftrue, fsep, flft, fres, fbor, flent, fat, froom}
 use prog.Wp.{Env, Calls, Loops}
 use types.Logic.{Logic, sem}
 use contract.Monad.{fact}
@@ -44,6 +44,10 @@ lies h l = (mem Q.the_row).own_at h l 0
 -- What the lender keeps while it is lent for the lifetime α under the name γ.
 abbrev away : ℕ → ℕ → GName → Fml
 away l α γ = flent (α ∷ []) (Held (mem Q.the_row) l 0 γ)
+
+-- What the call leaves of the borrow: its last value under the name γ, and the borrow itself, closed.
+abbrev left_by : ℕ → GName → ℕ → Queue → Fml
+left_by α γ l h = fsep (fres γ ((Q.the_row).coded.code h)) (fbor (α ∷ []) (Held (mem Q.the_row) l 0 γ))
 
 module _ {M : Type 1} {𝓤 : Ura M} (𝓛 : Logic 𝓤) where
   -- A local's cell is a queue in memory, and a queue in memory is room for another.
@@ -102,10 +106,11 @@ module _ {M : Type 1} {𝓤 : Ura M} {𝓛 : Logic 𝓤} {K : Type 0} {Γ : List
         → Seq K 𝓛 (raw ((Lent means 𝓤 𝓛).post (handed 𝓛 means h l n α γ) v) ∷ ‵ (away l α γ) ∷ Γ) G
     takes_back t z α γ v k =
         use1 𝓛 (later (some (λ (r : Reply). ((‵ (flft (α ∷ []) full_share) ⊛ ‵ ftrue) ⊛ ‵ ((R.the_row).own_val r (v ∷ []))) ⊛
-        some (λ (ws : Queue × (Unit {0} × Unit {0})). ‵ (fsep (fres γ ((Q.the_row).coded.code ws.0)) (fsep ftrue ftrue)) ⊛
+        some (λ (ws : Queue × (Unit {0} × Unit {0})). ‵ (fsep (left_by α γ l ws.0) (fsep ftrue ftrue)) ⊛
         raw (fact 𝓤 ((ws.0 ≡ (means h n).queue) × (r ≡ (means h n).reply))))))) (id⊢ 𝓤 _) $ await t z $ pick t (λ r.
         split t $ move t (1 ∷ []) $ pick t (λ ws. split t $ move t (1 ∷ []) $ heard t ((ws.0 ≡ (means h n).queue) × (r ≡ (means h n).reply)) (λ e.
-        fsplit t $ move t (1 ∷ []) $ drop t $ rewrite t 0 (λ (u : Queue). ‵ (fres γ ((Q.the_row).coded.code u))) e.0 refl $
+        fsplit t $ move t (1 ∷ []) $ drop t $ fsplit t $ move t (1 ∷ []) $ drop t $
+        rewrite t 0 (λ (u : Queue). ‵ (fres γ ((Q.the_row).coded.code u))) e.0 refl $
         move t (1 ∷ []) $ split t $ split t $ lft_end t z $ move t (0 ∷ 4 ∷ 3 ∷ []) $
         use3 𝓛 (later (‵ (lies (means h n).queue l))) (ref_back 𝓛 Q.the_row (α ∷ []) γ (means h n).queue l 0) $ await t z $
         move t (1 ∷ []) $ drop t $ move t (1 ∷ []) $ facts t R.the_row (Is R.the_row) (shows 𝓛 R.the_row) r (v ∷ []) (λ is.
@@ -120,7 +125,7 @@ module _ {M : Type 1} {𝓤 : Ura M} {𝓛 : Logic 𝓤} {K : Type 0} {Γ : List
       (k (subst (Is R.the_row (means h n).reply) (LL.tells R.the_type R'.the_laws (means h n).reply _ is) is))
 
   -- The rule, for a call that is the last of its part: the operands are read with two entries before Γ, and the call's answer is what the step answers.
-  module _ {E : Env 𝓤 H} {C : Calls 𝓤 H} {Λ : Loops 𝓤 H} {q : Post 𝓤 H} {f : Name} {xs : List Operand} {d : Place} where
+  module _ {E : Env 𝓤 H} {C : Calls 𝓤 H} {Λ : Loops 𝓤 H} {q : Post 𝓤 H} {f : Callee} {xs : List Operand} {d : Place} where
     pub calls_lent_last : K → FmC 𝓤 H 𝓛.laws C → Triple 𝓤 (C f) (Lent means 𝓤 𝓛) → n < 2 ^ 32
         → ((i j : Item 𝓤) → Opds K 𝓛 (i ∷ j ∷ Γ) E xs (vptr l 0 ∷ vint w32 n ∷ []))
         → (Is R.the_row (means h n).reply (reply_vals (means h n).reply)

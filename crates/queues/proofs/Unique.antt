@@ -65,18 +65,18 @@ one_sync_ask κs a x y s t p q = p ∙ sym q
 pub one_lent : (means : Queue → ℕ → Step) → OneLent lent_ended (λ M 𝓤 𝓛 mem run. lent_clauses means 𝓤) (λ κs s. s.0.now)
 one_lent means = record {
   says = lent_says means;
-  nothing_else = λ 𝓤 H B mem run κs a g r s. refl;
+  nothing_else = λ 𝓛 mem run κs a g r s. refl;
   one = λ κs a x y s t p q. (p.1 ∙ sym q.1, p.0 ∙ sym q.0);
 }
 
-pub one_queue_load : OneLent load.ended (λ M 𝓤. load.clauses 𝓤) (λ κs s. s.0.now)
+pub one_queue_load : OneLent load.ended (λ M 𝓤 𝓛. load.clauses 𝓛) (λ κs s. s.0.now)
 one_queue_load = one_lent load_of
 
-pub one_queue_read : OneLent read.ended (λ M 𝓤. read.clauses 𝓤) (λ κs s. s.0.now)
+pub one_queue_read : OneLent read.ended (λ M 𝓤 𝓛. read.clauses 𝓛) (λ κs s. s.0.now)
 one_queue_read = one_lent read_of
 
-pub one_queue_vertical_sync : OneLent vertical_sync.ended (λ M 𝓤. vertical_sync.clauses 𝓤) (λ κs s. s.0.now)
+pub one_queue_vertical_sync : OneLent vertical_sync.ended (λ M 𝓤 𝓛. vertical_sync.clauses 𝓛) (λ κs s. s.0.now)
 one_queue_vertical_sync = one_lent vertical_of
 
-pub one_queue_ask : OneLent ask.ended (λ M 𝓤. ask.clauses 𝓤) (λ κs s. s.0.now)
+pub one_queue_ask : OneLent ask.ended (λ M 𝓤 𝓛. ask.clauses 𝓛) (λ κs s. s.0.now)
 one_queue_ask = one_lent ask_of

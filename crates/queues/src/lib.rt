@@ -1,4 +1,6 @@
 // The chip's three queues: words go in singly and leave as bytes, low byte first, in the order they came.
+#![tactic(auto)]
+
 mod counted;
 pub mod lent;
 mod steps;
