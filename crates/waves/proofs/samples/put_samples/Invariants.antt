@@ -8,7 +8,8 @@ use Rattle.waves.proofs.samples.put_samples.Given as goal
 
 abbrev pub invariant-loop-k : goal.invariant-loop-k
 invariant-loop-k l =
-    (l.k ≤ length l.values) × (length l.out ≡ length l.initial.out) × (sets l.out (2 * l.k) (samples_of (drop l.k l.values)) ≡ sets l.initial.out 0 (samples_of l.values))
+    (l.k ≤ length l.values) × (length l.out ≡ length l.initial.out)
+    × (sets l.out (2 * l.k) (samples_of (drop l.k l.values)) ≡ sets l.initial.out 0 (samples_of l.values))
 
 abbrev pub decreases-loop-k : goal.decreases-loop-k
 decreases-loop-k l = length l.values - l.k
