@@ -1,4 +1,6 @@
 // Plate files: read, copied out, written. The contents of the sections are not judged here.
+#![tactic(auto)]
+
 mod words;
 
 ghost use Rattle.std.specs.Prelude.{◌≡◌, ◌≤◌, length};

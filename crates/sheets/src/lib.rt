@@ -1,4 +1,6 @@
 // A plate file taken apart once: all its words in memory that the caller lends, and where its four lists stand among them.
+#![tactic(auto)]
+
 pub mod input;
 
 ghost use Rattle.std.specs.Prelude.{◌≡◌, length};

@@ -1,13 +1,13 @@
 -- Both zeros, both ends, and the sixths of each stereo value.
 use Rattle.std.proofs.Common.{◌≡◌, ℕ, pos, negsuc, refl}
-use lib.IntN.{zero_*ℤ}
+use lib.IntN.{zero-*ℤ}
 use Rattle.sound.specs.Amplitude.{amplitude_of, signed_of, value_of}
 use Rattle.sound.specs.Sixths.{left_of}
 
 -- Zero has two bytes, at any sixths.
 pub zeros : (sixths : ℕ) → (value_of 0x00 sixths ≡ pos 0) × (value_of 0x01 sixths ≡ pos 0)
 unfolding value_of signed_of amplitude_of
-zeros sixths = (zero_*ℤ (pos sixths), zero_*ℤ (pos sixths))
+zeros sixths = (zero-*ℤ (pos sixths), zero-*ℤ (pos sixths))
 
 -- The ends of the range.
 pub ends : (value_of 0xFE 6 ≡ pos 23712) × (value_of 0xFF 6 ≡ negsuc 23711)

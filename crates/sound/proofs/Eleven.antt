@@ -1,5 +1,6 @@
 -- The table of eleven channels: filled channel by channel, and read by a byte's channel or by its counter.
-use Rattle.std.proofs.Common.{◌≡◌, ℕ, ◌+◌, ◌*◌, ◌%◌, ◌<◌, List, [], ◌∷◌, set, ℤ, sym, refl, ap, ◌∙◌, arith, length-set, get_or-set_other, get_or-set_same, below_more}
+use Rattle.std.proofs.Common.{◌≡◌, ℕ, ◌+◌, ◌*◌, ◌%◌, ◌<◌, List, [], ◌∷◌, set, ℤ, sym, refl, ap, ◌∙◌, arith, length-set, get_or-set_other}
+use Rattle.std.proofs.Common.{get_or-set_same, below_more}
 use lib.Seq.{sets}
 use Rattle.registers.specs.Stereo.{stereo_of}
 use Rattle.registers.specs.declared.record.Registers.{Registers}

@@ -1,5 +1,6 @@
 -- What stands at every place of the lent memory after the sound call, from its promises.
-use Rattle.std.proofs.Common.{◌≡◌, ℕ, zero, suc, ◌+◌, ◌*◌, ◌/◌, ◌%◌, ◌^◌, ◌<◌, ◌≤◌, Bool, true, false, eqb, List, [], ◌∷◌, length, get_or, ℤ, pos, nat_abs, sym, refl, ap, ◌∙◌, subst, arith, eqb-true}
+use Rattle.std.proofs.Common.{◌≡◌, ℕ, zero, suc, ◌+◌, ◌*◌, ◌/◌, ◌%◌, ◌^◌, ◌<◌, ◌≤◌, Bool, true, false, eqb, List, [], ◌∷◌, length, get_or, ℤ, pos}
+use Rattle.std.proofs.Common.{nat_abs, sym, refl, ap, ◌∙◌, subst, arith, eqb-true}
 use lib.Seq.{sets, length-sets}
 use borrow.Author.Tests.{eqb-false}
 use borrow.Fn.Kinds.{Dens, res_t, ended_of}

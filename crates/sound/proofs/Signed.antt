@@ -1,5 +1,6 @@
 -- Signed values as the machine has them: every value fits 16 bits, and is within ±23,712 at six sixths or fewer.
-use Rattle.std.proofs.Common.{◌≡◌, ℕ, zero, suc, ◌*◌, ◌%◌, ◌<◌, ◌≤◌, Bool, true, false, eqb, ℤ, pos, negsuc, ◌-ℤ◌, ◌*ℤ◌, neg_ℤ, nat_abs, refl, ap, ◌∙◌, mul-le-mul, arith, to_z-of_z, w16, SFits, to_z, of_z, eq-eqb, ne_eqb}
+use Rattle.std.proofs.Common.{◌≡◌, ℕ, zero, suc, ◌*◌, ◌%◌, ◌<◌, ◌≤◌, Bool, true, false, eqb, ℤ, pos, negsuc, ◌-ℤ◌, ◌*ℤ◌, neg_ℤ, nat_abs, refl, ap}
+use Rattle.std.proofs.Common.{◌∙◌, mul-le-mul, arith, to_z-of_z, w16, SFits, to_z, of_z, eq-eqb, ne_eqb}
 use lib.IntN.{+ℤ_idl}
 use mir.Facts.{to_z_pos}
 use Rattle.buffers.specs.Pick.{pick}

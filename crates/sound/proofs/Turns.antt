@@ -1,5 +1,6 @@
 -- The values of a byte, of a word, and of one word more, as stores.
-use Rattle.std.proofs.Common.{◌≡◌, ℕ, suc, ◌+◌, ◌*◌, ◌/◌, ◌%◌, ◌<◌, ◌≤◌, List, [], ◌∷◌, length, get_or, drop, set, ℤ, ◌∙◌, add-one, arith, drop_of_length-le, drop-cons}
+use Rattle.std.proofs.Common.{◌≡◌, ℕ, suc, ◌+◌, ◌*◌, ◌/◌, ◌%◌, ◌<◌, ◌≤◌, List, [], ◌∷◌, length, get_or, drop, set, ℤ, ◌∙◌, add-one, arith}
+use Rattle.std.proofs.Common.{drop_of_length-le, drop-cons}
 use lib.Seq.{sets}
 use Rattle.buffers.specs.Words.{bytes_of}
 use Rattle.sound.specs.Values.{counter_after, values_of}

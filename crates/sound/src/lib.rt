@@ -1,4 +1,6 @@
 // Sound: signed sixths, left then right, of each byte of a list of words.
+#![tactic(auto)]
+
 mod amplitude;
 mod sixths;
 mod values;

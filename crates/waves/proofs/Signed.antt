@@ -16,7 +16,7 @@ module _ (z : ℤ) (f : SFits w16 z) where
   read = to_z-of_z f
 
   wide_read : to_z w32 (of_z w32 (to_z w16 (of_z w16 z))) ≡ z
-  wide_read = rw read (to_z-of_z (sfits_widen tt f))
+  wide_read = rw read (to_z-of_z {w = w32} (sfits_widen tt f))
 
   pub wide_fits : SFits w32 (to_z w16 (of_z w16 z))
   wide_fits = rw read (sfits_widen tt f)
