@@ -17,7 +17,7 @@ use Rattle.cells.specs.Cell.{cell}
 use Rattle.mixing.specs.Mix.{shown_over, mixed_at, mixed_raster, AgreeWhereShown, mix_leaves}
 use Rattle.mixing.specs.Rules.{MixRules, TooLargeAt}
 use Rattle.mixing.proofs.Exactly.{mix_exactly, too_large_exactly}
-use Rattle.mixing.proofs.Hidden.{hidden, mixed_few}
+use Rattle.mixing.proofs.Hiding.{hidden, mixed_few}
 use Rattle.claims.specs.Calls.{Every, Ran}
 use Rattle.claims.specs.Views as call
 use Rattle.claims.specs.Views.{MixRun}

@@ -1,5 +1,5 @@
 pub mod Numbers
 pub mod Calls
 pub mod Exactly
-pub mod Hidden
+pub mod Hiding
 pub mod Unique

@@ -1,4 +1,6 @@
 // One raster's cells laid over a camera's colours.
+#![tactic(auto)]
+
 mod camera;
 mod lay;
 

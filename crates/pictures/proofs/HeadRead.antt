@@ -226,7 +226,7 @@ module _ (n v : ℕ) where
       record {
         start = i.start;
         white = i.white ++ (line ∷ []);
-        led = led_more k i.start i.white line i.led i.in_line;
+        led = led_more k i.start i.white line i.led i.in_line_holds;
         some_white = more_some i.white line;
         is =
             byte_more read i.start (spelled i.white) (35 ∷ i.text) 10 i.is
@@ -239,7 +239,7 @@ module _ (n v : ℕ) where
     white = i.white;
     led = i.led;
     text = i.text ++ (b ∷ []);
-    in_line_holds = each_more in_line i.text b i.in_line (rw e);
+    in_line_holds = each_more in_line i.text b i.in_line_holds (rw e);
     is = byte_more read i.start (spelled i.white) (35 ∷ i.text) b i.is;
   }
 

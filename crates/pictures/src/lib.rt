@@ -1,4 +1,6 @@
 // A picture's bytes: red, green and blue of each cell, each 4-bit gun times 17; such bytes read back, and the head before them.
+#![tactic(auto)]
+
 pub mod head;
 pub mod read;
 

@@ -1,4 +1,6 @@
 // The words of one displayed raster: a part of the caller's own list.
+#![tactic(auto)]
+
 pub mod found;
 
 ghost use Rattle.std.specs.Prelude.{◌≡◌};
