@@ -1,0 +1,24 @@
+-- Slices that are no record are refused; else the answer is that of their record and the list.
+use Rattle.registers.specs.Accept.{accept_told}
+use Rattle.vombelishi.specs.Load.{accepted_told}
+use Rattle.vombelishi.proofs.Records.{long_enough, told_short, told_by}
+use mathlib.Core.Path.{sym, ◌∙◌}
+use Rattle.vombelishi.proofs.loads.judge_list.Goals as goal
+
+pub returns-then-lacks : goal.returns-then-lacks
+unfolding accepted_told
+returns-then-lacks c =
+    let words = c.args.words.now in
+    told_short _ _ (λ g. accept_told g words) (sym c.lacks.ensures ∙ c.if-lacks.true)
+
+pub record_of-requires : goal.record_of-requires
+record_of-requires c =
+    let args = c.args in
+    long_enough args.values.now args.written.now (sym c.lacks.ensures ∙ c.if-lacks.false)
+
+pub returns : goal.returns
+unfolding accepted_told
+returns c =
+    let words = c.args.words.now in
+    told_by _ _ (λ g. accept_told g words) _ _ (sym c.lacks.ensures ∙ c.if-lacks.false) c.record_of.ensures
+    c.load_and_check-verdict.ensures.0
