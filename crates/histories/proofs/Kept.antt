@@ -8,7 +8,8 @@ use lib.Dec.{eqb, ltb}
 use lib.ListN.{length}
 use Rattle.buffers.proofs.Tests.{no}
 use Rattle.queues.specs.Queue.{queue_depth, fresh_of, fitted_of, is_full, is_empty, asks_bit, Fit, front_byte}
-use Rattle.queues.specs.Steps.{step_of, emptied_of, with_ask, with_word, without_byte, load_fit, read_fit, load_of, read_of, vertical_of, ask_of, horizontal_of, ends_of}
+use Rattle.queues.specs.Steps.{step_of, emptied_of, with_ask, with_word, without_byte, load_fit, read_fit}
+use Rattle.queues.specs.Steps.{load_of, read_of, vertical_of, ask_of, horizontal_of, ends_of}
 use Rattle.queues.specs.declared.Queue.{Queue}
 use Rattle.queues.specs.declared.Reply.{Reply}
 use Rattle.queues.specs.declared.Step.{Step}

@@ -1,7 +1,7 @@
 -- What the calls of a history that was lived were answered, from their own promises, is what the account says.
 use Prim.Native.Nat.{ℕ}
 use mathlib.Core.List.{List, [], ◌∷◌}
-use mathlib.Core.Logic.{◌⊎◌, inl, ⊎_elim}
+use mathlib.Core.Logic.{inl, ⊎_elim}
 use mathlib.Core.Path.{◌≡◌, refl, sym, ◌∙◌, ap}
 use seplogic.Ra.Ura.{Ura}
 use base.Logic.{SProp}

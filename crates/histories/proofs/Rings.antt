@@ -44,8 +44,11 @@ module _ (d : ℕ) where
       let e : p + 0 ≡ p = omega arith in
       rw (e, around_low p h, get_or-set_same words p w 0 (omega arith))
   ring_put_holds words w p (suc n) long h k =
-      rw (get_or-set_other words (around d (p + suc n)) p w 0 (around_other p n h k), ← around_next p n h k)
-      (ap (λ (l : List ℕ). get_or words p 0 ∷ l) (ring_put_holds words w (around d (p + 1)) n long (around_lt d (p + 1) (omega arith)) (omega arith)))
+      let next = around d (p + 1) in
+      ap (λ m. m ∷ ring_from (set words (around d (p + suc n)) w) d next (suc n))
+      (get_or-set_other words (around d (p + suc n)) p w 0 (around_other p n h k))
+      ∙ ap (λ m. get_or words p 0 ∷ ring_from (set words m w) d next (suc n)) (sym (around_next p n h k))
+      ∙ ap (λ (l : List ℕ). get_or words p 0 ∷ l) (ring_put_holds words w next n long (around_lt d (p + 1) (omega arith)) (omega arith))
 
   pub length_ring : (words : List ℕ) (p n : ℕ) → length (ring_from words d p n) ≡ n
   unfolding ring_from

@@ -14,7 +14,7 @@ use Rattle.buffers.proofs.Split.{true_or_false}
 use Rattle.queues.specs.Queue.{fresh_of, fitted_of, Fit}
 use Rattle.queues.specs.declared.Queue.{Queue}
 use Rattle.queues.proofs.Fits.{by_test, fresh_fit, fitted_fit, fitted_is, fitted_kind}
-use Rattle.histories.specs.Calls.{QueueCall, load, read, vertical, ask, horizontal, ends, answers}
+use Rattle.histories.specs.Calls.{QueueCall, load, read, vertical, ask, horizontal, ends}
 use Rattle.histories.specs.Account.{Account, Turn, opened, is_full_by, is_empty_by, empties, asks_for, coming_with, with_loaded, with_given}
 use Rattle.histories.specs.Account.{next_byte, turn, turned, account, account_told}
 use Rattle.histories.specs.Since.{word_in, byte_in, words_since, bytes_since, loaded_by, given_by, emptied, start_of}
