@@ -56,14 +56,14 @@ lent_load_refuses κs a r s p = load_refuses _ _ _ r p.0 p.1
 pub lent_read_refuses : EveryLent read_of ReadRefuses
 lent_read_refuses κs a r s p = read_refuses _ _ _ r p.0 p.1
 
-pub vom_queue_load_promises : Promises load_of (λ M 𝓤. vom_queue_load.clauses 𝓤)
+pub vom_queue_load_promises : Promises load_of (λ M 𝓤 𝓛. vom_queue_load.clauses 𝓛)
 vom_queue_load_promises M 𝓤 𝓛 mem run κs a g r s = refl
 
-pub vom_queue_read_promises : Promises read_of (λ M 𝓤. vom_queue_read.clauses 𝓤)
+pub vom_queue_read_promises : Promises read_of (λ M 𝓤 𝓛. vom_queue_read.clauses 𝓛)
 vom_queue_read_promises M 𝓤 𝓛 mem run κs a g r s = refl
 
-pub vom_queue_vertical_sync_promises : Promises vertical_of (λ M 𝓤. vom_queue_vertical_sync.clauses 𝓤)
+pub vom_queue_vertical_sync_promises : Promises vertical_of (λ M 𝓤 𝓛. vom_queue_vertical_sync.clauses 𝓛)
 vom_queue_vertical_sync_promises M 𝓤 𝓛 mem run κs a g r s = refl
 
-pub vom_queue_ask_promises : Promises ask_of (λ M 𝓤. vom_queue_ask.clauses 𝓤)
+pub vom_queue_ask_promises : Promises ask_of (λ M 𝓤 𝓛. vom_queue_ask.clauses 𝓛)
 vom_queue_ask_promises M 𝓤 𝓛 mem run κs a g r s = refl

@@ -10,10 +10,10 @@ use Rattle.vombelishi.proofs.loads.vom_load_word.Kinds as load_word_kinds
 use Rattle.vombelishi.proofs.loads.vom_load_word.Reads as load_word_reads
 use Rattle.vombelishi.proofs.settings.vom_check_sound.Kinds as check_sound_kinds
 use Rattle.vombelishi.proofs.settings.vom_check_sound.Reads as check_sound_reads
-use Rattle.vombelishi.proofs.pictures.vom_frame.Kinds as frame_kinds
-use Rattle.vombelishi.proofs.pictures.vom_frame.Reads as frame_reads
-use Rattle.vombelishi.proofs.pictures.vom_raster.Kinds as raster_kinds
-use Rattle.vombelishi.proofs.pictures.vom_raster.Reads as raster_reads
+use Rattle.vombelishi.proofs.frames.vom_frame.Kinds as frame_kinds
+use Rattle.vombelishi.proofs.frames.vom_frame.Reads as frame_reads
+use Rattle.vombelishi.proofs.frames.vom_raster.Kinds as raster_kinds
+use Rattle.vombelishi.proofs.frames.vom_raster.Reads as raster_reads
 use Rattle.vombelishi.proofs.rasters.vom_raster_words.Kinds as raster_words_kinds
 use Rattle.vombelishi.proofs.rasters.vom_raster_words.Reads as raster_words_reads
 use Rattle.vombelishi.proofs.rasters.vom_marks.Kinds as marks_kinds

@@ -24,12 +24,12 @@ use Rattle.vombelishi.proofs.loads.vom_load_and_check_sound.Kinds as vom_load_an
 use Rattle.vombelishi.proofs.loads.vom_load_and_check_sound.Reads as vom_load_and_check_sound_reads
 use Rattle.vombelishi.proofs.loads.vom_load_word.Kinds as vom_load_word_kinds
 use Rattle.vombelishi.proofs.loads.vom_load_word.Reads as vom_load_word_reads
-use Rattle.vombelishi.proofs.pictures.vom_frame.Kinds as vom_frame_kinds
-use Rattle.vombelishi.proofs.pictures.vom_frame.Reads as vom_frame_reads
+use Rattle.vombelishi.proofs.frames.vom_frame.Kinds as vom_frame_kinds
+use Rattle.vombelishi.proofs.frames.vom_frame.Reads as vom_frame_reads
 use Rattle.vombelishi.proofs.mixes.vom_mix.Kinds as vom_mix_kinds
 use Rattle.vombelishi.proofs.mixes.vom_mix.Reads as vom_mix_reads
-use Rattle.vombelishi.proofs.pictures.vom_raster.Kinds as vom_raster_kinds
-use Rattle.vombelishi.proofs.pictures.vom_raster.Reads as vom_raster_reads
+use Rattle.vombelishi.proofs.frames.vom_raster.Kinds as vom_raster_kinds
+use Rattle.vombelishi.proofs.frames.vom_raster.Reads as vom_raster_reads
 use Rattle.vombelishi.specs.contracts.queued.vom_queue_load as vom_queue_load
 use Rattle.vombelishi.specs.contracts.queued.vom_queue_read as vom_queue_read
 use Rattle.vombelishi.specs.contracts.queued.vom_queue_vertical_sync as vom_queue_vertical_sync
@@ -126,16 +126,16 @@ one_vom_text κs a x y s t p q = (p.0 ∙ sym q.0, λ i. ((p.1 ∙ sym q.1) i, (
 pub one_vom_queue_fresh : OneAnswer 0 vom_queue_fresh_kinds.ps vom_queue_fresh_kinds.r vom_queue_fresh_reads.Post
 one_vom_queue_fresh κs a x y s t p q = p ∙ sym q
 
-pub one_vom_queue_load : OneLent vom_queue_load.ended (λ M 𝓤. vom_queue_load.clauses 𝓤) (λ κs s. s.0.now)
+pub one_vom_queue_load : OneLent vom_queue_load.ended (λ M 𝓤 𝓛. vom_queue_load.clauses 𝓛) (λ κs s. s.0.now)
 one_vom_queue_load = one_lent load_of
 
-pub one_vom_queue_read : OneLent vom_queue_read.ended (λ M 𝓤. vom_queue_read.clauses 𝓤) (λ κs s. s.0.now)
+pub one_vom_queue_read : OneLent vom_queue_read.ended (λ M 𝓤 𝓛. vom_queue_read.clauses 𝓛) (λ κs s. s.0.now)
 one_vom_queue_read = one_lent read_of
 
-pub one_vom_queue_vertical_sync : OneLent vom_queue_vertical_sync.ended (λ M 𝓤. vom_queue_vertical_sync.clauses 𝓤) (λ κs s. s.0.now)
+pub one_vom_queue_vertical_sync : OneLent vom_queue_vertical_sync.ended (λ M 𝓤 𝓛. vom_queue_vertical_sync.clauses 𝓛) (λ κs s. s.0.now)
 one_vom_queue_vertical_sync = one_lent vertical_of
 
-pub one_vom_queue_ask : OneLent vom_queue_ask.ended (λ M 𝓤. vom_queue_ask.clauses 𝓤) (λ κs s. s.0.now)
+pub one_vom_queue_ask : OneLent vom_queue_ask.ended (λ M 𝓤 𝓛. vom_queue_ask.clauses 𝓛) (λ κs s. s.0.now)
 one_vom_queue_ask = one_lent ask_of
 
 pub one_vom_sync_ask : OneState 3 vom_sync_ask_kinds.ps vom_sync_ask_kinds.r (λ κs s. s.1.1.1.1.0.now) vom_sync_ask_reads.Post

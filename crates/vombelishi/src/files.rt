@@ -29,8 +29,7 @@ fn put_sections(p: Sections, out: &mut [u64])
 }
 
 // The five starts in bytes and R, V, C, S; 14, then 13 for `places`.
-#[unsafe(no_mangle)]
-pub extern "C" fn vom_read(file: &[u8], places: &mut [u64]) -> u64
+pub fn vom_read(file: &[u8], places: &mut [u64]) -> u64
     ensures { (result ≡ answer_code (read_call file.now (length places.old)))
         × (places.new ≡ stored_by (read_call file.now (length places.old)) places.old) }
 {
@@ -47,8 +46,7 @@ pub extern "C" fn vom_read(file: &[u8], places: &mut [u64]) -> u64
 }
 
 // Copies every word that stands before the trailer; 14, then 13.
-#[unsafe(no_mangle)]
-pub extern "C" fn vom_copy(file: &[u8], words: &mut [u32]) -> u64
+pub fn vom_copy(file: &[u8], words: &mut [u32]) -> u64
     ensures { (result ≡ answer_code (copy_told file.now (length words.old)))
         × (words.new ≡ copy_leaves file.now words.old) }
 {
@@ -56,8 +54,7 @@ pub extern "C" fn vom_copy(file: &[u8], words: &mut [u32]) -> u64
 }
 
 // A plate of four lists, and its length in bytes; 15, then 13 for `out`.
-#[unsafe(no_mangle)]
-pub extern "C" fn vom_write(
+pub fn vom_write(
     registers: &[u32],
     video: &[u32],
     cursor: &[u32],

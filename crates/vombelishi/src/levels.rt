@@ -9,8 +9,7 @@ use crate::code::SHORT;
 use crate::record::{lacks, record_of};
 
 // The 12-bit colour of a logical pixel, and 1 where it has supremacy, else 0; 13 for slices shorter than 64.
-#[unsafe(no_mangle)]
-pub extern "C" fn vom_colour(
+pub fn vom_colour(
     values: &[u32],
     written: &[u8],
     depth: u8,
@@ -32,16 +31,14 @@ pub extern "C" fn vom_colour(
     0
 }
 
-#[unsafe(no_mangle)]
-pub extern "C" fn vom_grey(colour: u16) -> u8
+pub fn vom_grey(colour: u16) -> u8
     ensures { result ≡ grey_of colour }
 {
     colours::grey(colour)
 }
 
 // 0 low, 1 high.
-#[unsafe(no_mangle)]
-pub extern "C" fn vom_pin(code: u8, control: u32) -> u8
+pub fn vom_pin(code: u8, control: u32) -> u8
     ensures { result ≡ pin_of code control }
 {
     colours::pin(code, control)

@@ -71,8 +71,7 @@ fn store_list(values: &mut [u32], written: &mut [u8], words: &[u32])
 
 // The words stored in order, and the 21 numbers of the setting that they leave; 13 for slices shorter than 64, then 1, 2 and the setting's, then 13
 // for `setting`.
-#[unsafe(no_mangle)]
-pub extern "C" fn vom_load_and_check(
+pub fn vom_load_and_check(
     values: &mut [u32],
     written: &mut [u8],
     words: &[u32],
@@ -101,12 +100,7 @@ pub extern "C" fn vom_load_and_check(
 }
 
 // The words stored in order where they leave a record that can be played; 13 for slices shorter than 64, then 1, 2, 3, 10.
-#[unsafe(no_mangle)]
-pub extern "C" fn vom_load_and_check_sound(
-    values: &mut [u32],
-    written: &mut [u8],
-    words: &[u32],
-) -> u64
+pub fn vom_load_and_check_sound(values: &mut [u32], written: &mut [u8], words: &[u32]) -> u64
     ensures { (result ≡ answer_code (accept_sound_call values.old written.old words.now))
         × (values.new ≡ sound_values_leaves values.old written.old words.now)
         × (written.new ≡ sound_written_leaves values.old written.old words.now) }
@@ -121,8 +115,7 @@ pub extern "C" fn vom_load_and_check_sound(
 }
 
 // One word alone; 13 for slices shorter than 64, then 2 with detail 0.
-#[unsafe(no_mangle)]
-pub extern "C" fn vom_load_word(values: &mut [u32], written: &mut [u8], word: u32) -> u64
+pub fn vom_load_word(values: &mut [u32], written: &mut [u8], word: u32) -> u64
     ensures { (result ≡ answer_code (word_call values.old written.old word))
         × (values.new ≡ word_values_leaves values.old written.old word)
         × (written.new ≡ word_written_leaves values.old written.old word) }

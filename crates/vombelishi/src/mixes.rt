@@ -7,8 +7,7 @@ use crate::code::{SHORT, answered};
 use crate::record::{lacks, record_of};
 
 // The N mixed colours; 13 for slices shorter than 64, then the setting's, 13, 20.
-#[unsafe(no_mangle)]
-pub extern "C" fn vom_mix(
+pub fn vom_mix(
     values: &[u32],
     written: &[u8],
     cells: &[u16],

@@ -10,16 +10,14 @@ use crate::record::{lacks, record_of};
 use queues::{Queue, Reply};
 
 // 0 video, 1 cursor, any other number sound.
-#[unsafe(no_mangle)]
-pub extern "C" fn vom_queue_fresh(kind: u16) -> Queue
+pub fn vom_queue_fresh(kind: u16) -> Queue
     ensures { result ≡ fresh_of kind }
 {
     Queue::fresh(kind)
 }
 
 // 16 for a full queue, or one whose count is at its largest.
-#[unsafe(no_mangle)]
-pub extern "C" fn vom_queue_load(queue: &mut Queue, word: u32) -> Reply
+pub fn vom_queue_load(queue: &mut Queue, word: u32) -> Reply
     ensures { (queue.new ≡ (load_of queue.old word).queue) × (result ≡ (load_of queue.old word).reply) }
 {
     let step = (*queue).load(word);
@@ -28,8 +26,7 @@ pub extern "C" fn vom_queue_load(queue: &mut Queue, word: u32) -> Reply
 }
 
 // 17 for an empty queue.
-#[unsafe(no_mangle)]
-pub extern "C" fn vom_queue_read(queue: &mut Queue, control: u32) -> Reply
+pub fn vom_queue_read(queue: &mut Queue, control: u32) -> Reply
     ensures { (queue.new ≡ (read_of queue.old control).queue) × (result ≡ (read_of queue.old control).reply) }
 {
     let step = (*queue).read(control);
@@ -38,8 +35,7 @@ pub extern "C" fn vom_queue_read(queue: &mut Queue, control: u32) -> Reply
 }
 
 // Vertical sync starts with raster 0.
-#[unsafe(no_mangle)]
-pub extern "C" fn vom_queue_vertical_sync(queue: &mut Queue, raster: u32) -> Reply
+pub fn vom_queue_vertical_sync(queue: &mut Queue, raster: u32) -> Reply
     ensures { (queue.new ≡ (vertical_of queue.old raster).queue) × (result ≡ (vertical_of queue.old raster).reply) }
 {
     let step = (*queue).vertical_sync(raster);
@@ -47,8 +43,7 @@ pub extern "C" fn vom_queue_vertical_sync(queue: &mut Queue, raster: u32) -> Rep
     step.reply
 }
 
-#[unsafe(no_mangle)]
-pub extern "C" fn vom_queue_ask(queue: &mut Queue, words: u32) -> Reply
+pub fn vom_queue_ask(queue: &mut Queue, words: u32) -> Reply
     ensures { (queue.new ≡ (ask_of queue.old words).queue) × (result ≡ (ask_of queue.old words).reply) }
 {
     let step = (*queue).ask(words);
@@ -57,14 +52,7 @@ pub extern "C" fn vom_queue_ask(queue: &mut Queue, words: u32) -> Reply
 }
 
 // How many words a raster's sync asks of a queue of a kind; 13 for slices shorter than 64.
-#[unsafe(no_mangle)]
-pub extern "C" fn vom_sync_ask(
-    values: &[u32],
-    written: &[u8],
-    kind: u16,
-    raster: u32,
-    words: &mut u32,
-) -> u64
+pub fn vom_sync_ask(values: &[u32], written: &[u8], kind: u16, raster: u32, words: &mut u32) -> u64
     ensures { (result ≡ answer_code (sync_call values.now written.now kind raster))
         × (words.new ≡ cell_by (sync_call values.now written.now kind raster) words.old) }
 {

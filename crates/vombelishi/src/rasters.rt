@@ -23,8 +23,7 @@ fn find_words(values: &[u32], written: &[u8], video: &[u32], y: u16) -> Found
 
 // The first word of raster y and how many there are: 0 and 0 where it is not displayed.
 // 13 for slices shorter than 64, then the setting's, 11 for the video words, 12, then 13 for `place`.
-#[unsafe(no_mangle)]
-pub extern "C" fn vom_raster_words(
+pub fn vom_raster_words(
     values: &[u32],
     written: &[u8],
     video: &[u32],
@@ -64,8 +63,7 @@ fn count_marks(
 }
 
 // The mark count; 13 for slices shorter than 64, then the setting's, 11.
-#[unsafe(no_mangle)]
-pub extern "C" fn vom_marks(
+pub fn vom_marks(
     values: &[u32],
     written: &[u8],
     video: &[u32],

@@ -67,8 +67,7 @@ fn judge_sound(values: &[u32], written: &[u8]) -> Answer
 }
 
 // Whether the record can be played; 13 for slices shorter than 64, then 3, 10.
-#[unsafe(no_mangle)]
-pub extern "C" fn vom_check_sound(values: &[u32], written: &[u8]) -> u64
+pub fn vom_check_sound(values: &[u32], written: &[u8]) -> u64
     ensures { result ≡ answer_code (check_sound_call values.now written.now) }
 {
     answered(judge_sound(values, written))

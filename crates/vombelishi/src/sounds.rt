@@ -10,8 +10,7 @@ use sound::Pairing;
 
 // 8 values for each word. The cell holds the counter before the first byte, and afterwards that after the last.
 // 13 for slices shorter than 64, then 3, 10, 13 for `out`.
-#[unsafe(no_mangle)]
-pub extern "C" fn vom_sound(
+pub fn vom_sound(
     values: &[u32],
     written: &[u8],
     words: &[u32],
@@ -39,8 +38,7 @@ pub extern "C" fn vom_sound(
 }
 
 // One byte's left and right value in sixths; 10 for a stereo value 0 modulo 8, then 13 for `pair`.
-#[unsafe(no_mangle)]
-pub extern "C" fn vom_sound_pair(byte: u8, stereo: u8, pair: &mut [i16]) -> u64
+pub fn vom_sound_pair(byte: u8, stereo: u8, pair: &mut [i16]) -> u64
     ensures { (result ≡ answer_code (pair_call byte stereo (length pair.old)))
         × (pair.new ≡ stored_by (pair_call byte stereo (length pair.old)) pair.old) }
 {

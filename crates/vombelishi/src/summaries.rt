@@ -7,8 +7,7 @@ use crate::code::{SHORT, answered};
 use crate::record::{lacks, record_of};
 
 // Three numbers to a displayed raster; 13 for slices shorter than 64, then the setting's, 11, 13.
-#[unsafe(no_mangle)]
-pub extern "C" fn vom_summaries(
+pub fn vom_summaries(
     values: &[u32],
     written: &[u8],
     video: &[u32],
@@ -33,8 +32,7 @@ pub extern "C" fn vom_summaries(
 }
 
 // One word, and its raster's three numbers; 13 for slices shorter than 64, then the setting's, 11, 18, 13.
-#[unsafe(no_mangle)]
-pub extern "C" fn vom_replace(
+pub fn vom_replace(
     values: &[u32],
     written: &[u8],
     video: &mut [u32],

@@ -52,8 +52,7 @@ fn put_text(file: &[u8], out: &mut [u8]) -> usize
 }
 
 // The text of a plate file, refused or not, and its length; 13 for `text`. A text has at least a byte.
-#[unsafe(no_mangle)]
-pub extern "C" fn vom_text(file: &[u8], text: &mut [u8], size: &mut u64) -> u64
+pub fn vom_text(file: &[u8], text: &mut [u8], size: &mut u64) -> u64
     ensures { (result ≡ answer_code (text_call file.now (length text.old)))
         × (text.new ≡ text_leaves file.now text.old)
         × (size.new ≡ cell_by (text_call file.now (length text.old)) size.old) }

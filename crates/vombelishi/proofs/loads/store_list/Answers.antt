@@ -1,6 +1,5 @@
 -- At each turn what is still to be stored, from the lists as they are, is what the whole list stores in the lists as they came.
 use borrow.Author.Rules.{rules}
-use Prim.Native.Nat.{◌-◌}
 use mathlib.Core.Path.{refl, sym, ◌∙◌}
 use Rattle.vombelishi.proofs.Loading.{values_turn, flags_turn, values_all, flags_all}
 use Rattle.vombelishi.proofs.loads.store_list.Goals as goal

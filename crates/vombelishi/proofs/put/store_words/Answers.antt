@@ -1,6 +1,5 @@
 -- At each turn what is still to be stored, from the slice as it is, leaves the same as storing all from the slice as it came.
 use borrow.Author.Rules.{rules}
-use Prim.Native.Nat.{◌-◌}
 use mathlib.Core.Path.{sym, ◌∙◌}
 use Rattle.buffers.proofs.Sets.{sets_turn, sets_done}
 use Rattle.vombelishi.proofs.put.store_words.Goals as goal

@@ -1,6 +1,5 @@
 -- At each turn both arrays hold what the slices give up to the turn's place; after the 64th they are the record.
 use borrow.Author.Rules.{rules}
-use Prim.Native.Nat.{◌-◌}
 use mathlib.Core.Path.{◌≡◌, refl, ◌∙◌}
 use native.Mathlib.Omega.{arith}
 use Rattle.buffers.proofs.Paints.{paint_none, paint_more}

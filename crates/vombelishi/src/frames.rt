@@ -8,8 +8,7 @@ use crate::record::{lacks, record_of};
 use registers::units::Rasters;
 
 // All N.V cells; 13 for slices shorter than 64, then the setting's, 11, 13.
-#[unsafe(no_mangle)]
-pub extern "C" fn vom_frame(
+pub fn vom_frame(
     values: &[u32],
     written: &[u8],
     video: &[u32],
@@ -27,8 +26,7 @@ pub extern "C" fn vom_frame(
 }
 
 // The N cells of raster y; 13 for slices shorter than 64, then the setting's, 11, 12, 13.
-#[unsafe(no_mangle)]
-pub extern "C" fn vom_raster(
+pub fn vom_raster(
     values: &[u32],
     written: &[u8],
     video: &[u32],

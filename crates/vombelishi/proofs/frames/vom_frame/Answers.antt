@@ -5,7 +5,7 @@ use Rattle.vombelishi.proofs.Pictured.{picture_short, picture_by_holds}
 use lib.ListN.{length}
 use Rattle.vombelishi.proofs.Records.{long_enough}
 use mathlib.Core.Path.{sym, ◌∙◌}
-use Rattle.vombelishi.proofs.pictures.vom_frame.Goals as goal
+use Rattle.vombelishi.proofs.frames.vom_frame.Goals as goal
 
 pub returns-then-lacks : goal.returns-then-lacks
 unfolding frame_call frame_call_leaves

@@ -5,7 +5,7 @@ use Rattle.vombelishi.proofs.Pictured.{picture_short, picture_by_holds}
 use lib.ListN.{length}
 use Rattle.vombelishi.proofs.Records.{long_enough}
 use mathlib.Core.Path.{sym, ◌∙◌}
-use Rattle.vombelishi.proofs.pictures.vom_raster.Goals as goal
+use Rattle.vombelishi.proofs.frames.vom_raster.Goals as goal
 
 pub returns-then-lacks : goal.returns-then-lacks
 unfolding raster_call raster_call_leaves

@@ -1,0 +1,37 @@
+// The frame and one raster of it.
+ghost use Rattle.std.specs.Prelude.{◌≡◌, length};
+ghost use Rattle.vombelishi.specs.Code.{answer_code};
+ghost use Rattle.vombelishi.specs.Pictures.{frame_call, frame_call_leaves, raster_call, raster_call_leaves};
+
+// All N.V cells; 13 for slices shorter than 64, then the setting's, 11, 13.
+#[unsafe(no_mangle)]
+pub extern "C" fn vom_frame(
+    values: &[u32],
+    written: &[u8],
+    video: &[u32],
+    cursor: &[u32],
+    cells: &mut [u16],
+) -> u64
+    ensures { (result ≡ answer_code (frame_call values.now written.now video.now cursor.now (length cells.old)))
+        × (cells.new
+        ≡ frame_call_leaves values.now written.now video.now cursor.now cells.old) }
+{
+    vombelishi::frames::vom_frame(values, written, video, cursor, cells)
+}
+
+// The N cells of raster y; 13 for slices shorter than 64, then the setting's, 11, 12, 13.
+#[unsafe(no_mangle)]
+pub extern "C" fn vom_raster(
+    values: &[u32],
+    written: &[u8],
+    video: &[u32],
+    cursor: &[u32],
+    y: u16,
+    cells: &mut [u16],
+) -> u64
+    ensures { (result ≡ answer_code (raster_call values.now written.now video.now cursor.now y (length cells.old)))
+        × (cells.new
+        ≡ raster_call_leaves values.now written.now video.now cursor.now y cells.old) }
+{
+    vombelishi::frames::vom_raster(values, written, video, cursor, y, cells)
+}
