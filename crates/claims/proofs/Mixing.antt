@@ -23,7 +23,7 @@ use Rattle.claims.specs.Views as call
 use Rattle.claims.specs.Views.{MixRun}
 use Rattle.claims.specs.Mixing.{Mixed, raster_in, SameRaster, Overlaid}
 use Rattle.claims.proofs.Demands.{each_raster_cell}
-use Rattle.claims.proofs.Runs.{lent}
+use Rattle.claims.proofs.Runs.{lent, lent_out}
 
 -- It is not refused exactly when every rule holds, and refused with 20 and an index exactly when the first number too large stands there.
 pub mixed_exactly : Every call.mix λ run. (run.answer ≡ given tt) ↔ MixRules run.registers run.cells run.camera (length run.before)
@@ -101,12 +101,12 @@ pub mix_run : (g : Registers) (cells camera before : List ℕ) → MixRules g ce
       before = before;
       after = mix_leaves g cells camera before;
     })
-unfolding lent
+unfolding lent lent_out
 mix_run g cells camera before r = record {
   lifetimes = ([], ([], ([], tt)));
-  arguments = (g, (lent cells, (lent camera, (lent before, tt))));
+  arguments = (g, (lent cells, (lent camera, (lent_out before, tt))));
   answer = Done;
-  exit = (g, (lent cells, (lent camera, (lent (mix_leaves g cells camera before), tt))));
+  exit = (g, (lent cells, (lent camera, (lent_out (mix_leaves g cells camera before), tt))));
   promise = (sym ((mix_exactly g cells camera (length before)).1 r), refl);
   is = refl;
 }

@@ -42,7 +42,7 @@ use Rattle.claims.specs.Views.{SummariesRun, ReplaceRun}
 use Rattle.claims.specs.PerRaster.{HasEntry, EntriesMade, counts_in, SameMarks, CoveredRaster, raster_in, WordReplaced, RanOn, ReplaceSeries}
 use Rattle.claims.specs.PerRaster.{list_after, numbers_after, Afresh, RightEntries}
 use Rattle.claims.proofs.Refusals.{summaries_refuses}
-use Rattle.claims.proofs.Runs.{of_run, lent}
+use Rattle.claims.proofs.Runs.{of_run, lent, lent_out}
 use Rattle.claims.proofs.Tables.{by_table}
 
 -- The three numbers of an entry, by their places.
@@ -272,12 +272,12 @@ pub summaries_run : (g : Registers) (video cursor : List ℕ) (threshold : ℕ) 
       before = before;
       after = summaries_leaves g video cursor threshold before;
     })
-unfolding lent
+unfolding lent lent_out
 summaries_run g video cursor threshold before r = record {
   lifetimes = ([], ([], ([], tt)));
-  arguments = (g, (lent video, (lent cursor, (threshold, (lent before, tt)))));
+  arguments = (g, (lent video, (lent cursor, (threshold, (lent_out before, tt)))));
   answer = Done;
-  exit = (g, (lent video, (lent cursor, (threshold, (lent (summaries_leaves g video cursor threshold before), tt)))));
+  exit = (g, (lent video, (lent cursor, (threshold, (lent_out (summaries_leaves g video cursor threshold before), tt)))));
   promise = (sym (summaries_given g video cursor threshold before (setting_of g) r.picture r.room), refl);
   is = refl;
 }
@@ -296,15 +296,15 @@ pub replace_run : (g : Registers) (video cursor : List ℕ) (threshold index wor
       before = before;
       after = replace_leaves g video cursor threshold index word before;
     })
-unfolding lent
+unfolding lent lent_out
 replace_run g video cursor threshold index word before r here =
     let told = replace_given g video cursor threshold before index word (setting_of g) r.picture here r.room in
     let after = replace_leaves g video cursor threshold index word before in
     record {
       lifetimes = ([], ([], ([], tt)));
-      arguments = (g, (lent video, (lent cursor, (threshold, (index, (word, (lent before, tt)))))));
+      arguments = (g, (lent_out video, (lent cursor, (threshold, (index, (word, (lent_out before, tt)))))));
       answer = Done;
-      exit = (g, (lent (set video index word), (lent cursor, (threshold, (index, (word, (lent after, tt)))))));
+      exit = (g, (lent_out (set video index word), (lent cursor, (threshold, (index, (word, (lent_out after, tt)))))));
       promise = (sym told, sym (taken_video g video cursor threshold index word before told), refl);
       is = refl;
     }

@@ -5,6 +5,7 @@ use mathlib.Core.List.{List, []}
 use native.Mathlib.Omega.{arith}
 use lib.ListN.{length}
 use denote.Ref.{Bor}
+use denote.MutBor.{MutBor}
 use Rattle.buffers.specs.Painted.{painted}
 use Rattle.buffers.proofs.Paints.{Paints, paints_of}
 use Rattle.refusals.specs.Table.{Told, given, unless_refused}
@@ -51,6 +52,10 @@ of_run c holds every run r = subst holds r.is (every r.lifetimes r.arguments r.a
 unfoldable pub lent : List ℕ → Bor (List ℕ)
 lent l = record { ref_ptr = (0, 0); now = l }
 
+-- A list as it is lent to be written.
+unfoldable pub lent_out : List ℕ → MutBor (List ℕ)
+lent_out l = record { ref_ptr = (0, 0); ghost_name = 0; now = l }
+
 -- Asked rightly, there is a run: what is said of every run is not said of none.
 pub right_runs : (g : Registers) (video cursor before : List ℕ) → Right g video cursor before
     → Ran call.frame (record {
@@ -61,12 +66,12 @@ pub right_runs : (g : Registers) (video cursor before : List ℕ) → Right g vi
       before = before;
       after = frame_leaves g video cursor before;
     })
-unfolding lent
+unfolding lent lent_out
 right_runs g video cursor before r = record {
   lifetimes = ([], ([], ([], tt)));
-  arguments = (g, (lent video, (lent cursor, (lent before, tt))));
+  arguments = (g, (lent video, (lent cursor, (lent_out before, tt))));
   answer = Done;
-  exit = (g, (lent video, (lent cursor, (lent (frame_leaves g video cursor before), tt))));
+  exit = (g, (lent video, (lent cursor, (lent_out (frame_leaves g video cursor before), tt))));
   promise = (sym (right_told r), refl);
   is = refl;
 }

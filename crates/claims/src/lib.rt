@@ -1,1 +1,3 @@
+#![tactic(auto)]
+
 // No code: what the libraries below promise together, stated in specs/ and proved in proofs/.
