@@ -29,7 +29,7 @@ class Checks:
 
 
 def program(name):
-    return ["tools/run", "target/bin/" + name]
+    return ["tools/run", f"crates/{name}/out/{name}"]
 
 
 def run(command, data):

@@ -4,14 +4,14 @@ from typing import NamedTuple
 
 from reading import antt, declarations, line, public, rattle, read
 
-MODULE = re.compile(r"Rattle·(\w+)(?:·(?:specs|proofs))?\.(specs|proofs)((?:\.[^.\s{}]+)*)")
+MODULE = re.compile(r"Rattle\.(\w+)\.(specs|proofs)((?:\.[^.\s{}]+)*)")
 USE = re.compile(r"^\s*(pub )?(?:ghost )?use ([^\s{};]+?)(?:\.\{([^}]*)\}| as (\S+?))?\s*;?$", re.M)
 WORDS = re.compile(r"[\s(){},;]+")
 
 
 def words_of(name):
-    """The words that a name is written by: of an operator `_+_`, what stands between its places."""
-    return [name, *filter(None, name.split("_"))] if "_" in (name[0], name[-1]) else [name]
+    """The words that a name is written by: of an operator `◌+◌`, what stands between its places."""
+    return [name, *filter(None, name.split("◌"))] if "◌" in name else [name]
 
 
 class Name(NamedTuple):
@@ -23,9 +23,11 @@ class Name(NamedTuple):
 
 
 def place(module):
-    """A module of a crate as `crate/specs/File`; nothing for one of the kit."""
+    """A module of a crate as `crate/specs/File`; nothing for one of the kit. What is made of a function's contract stands with its proof."""
     found = MODULE.fullmatch(module)
-    return "/".join((found.group(1), found.group(2), *found.group(3).split(".")[1:])) if found else None
+    if not found or not os.path.isdir(f"crates/{found.group(1)}"):
+        return None
+    return "/".join((found.group(1), found.group(2), *found.group(3).split(".")[1:])).replace("/specs/contracts/", "/proofs/")
 
 
 class File:
@@ -51,12 +53,14 @@ class File:
 
     def meant(self, word):
         """Where a word of this file is declared: a module and a name, or nothing where it is no definition of ours."""
-        if word in self.brought:
-            return self.brought[word]
-        if word in self.owners:
-            return self.module, self.owners[word]
-        module, _, name = word.rpartition(".")
-        return (self.aliases.get(module, module), name) if module in self.aliases or MODULE.fullmatch(module) else None
+        parts = word.split(".")
+        for end in range(len(parts) - 1, 0, -1):  # `module.name`, and fields of it behind
+            module = ".".join(parts[:end])
+            if module in self.aliases or MODULE.fullmatch(module):
+                return self.aliases.get(module, module), parts[end]
+        if parts[0] in self.brought:
+            return self.brought[parts[0]]
+        return (self.module, self.owners[parts[0]]) if parts[0] in self.owners else None
 
 
 class Specs:
@@ -128,7 +132,7 @@ def statement(name, body):
 def theorems(specs):
     """Each public theorem of claims, with the definitions that it speaks of."""
     start = "crates/claims/proofs"
-    for entry in sorted(os.listdir(start)) if os.path.isdir(start) else []:
+    for entry in sorted(name for name in os.listdir(start) if name.endswith(".antt")) if os.path.isdir(start) else []:
         file = specs.file(f"claims/proofs/{entry[:-5]}")
         for own, body in file.bodies.items():
             if re.search(r"(?:^| )pub ", body):

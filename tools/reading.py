@@ -17,6 +17,7 @@ class Function(NamedTuple):
     returns: str
     clauses: list  # kind and text, in order
     header: str  # from its name up to its body, in one line
+    body: str  # as it is laid out by `rt fmt`, in one line
 
 
 class Call(NamedTuple):
@@ -54,22 +55,26 @@ def closed(text, at):
 
 
 def listed(text):
-    """What stands between the commas outside all brackets."""
+    """What stands between the commas outside all brackets, those round types too."""
     parts, depth = [""], 0
-    for letter in text:
-        depth += (letter in PAIRS) - (letter in PAIRS.values())
-        if letter == "," and depth == 0:
+    for part in re.findall(r"->|.", text, re.S):
+        depth += (part in PAIRS or part == "<") - (part in PAIRS.values() or part == ">")
+        if part == "," and depth == 0:
             parts.append("")
         else:
-            parts[-1] += letter
+            parts[-1] += part
     return [line(part) for part in parts if part.strip()]
+
+
+OWNER = re.compile(r"^impl(?:<[^{}]*?>)? (?:[\w:]+(?:<[^{}]*?>)? for )?(\w+)(?:<[^{}]*?>)? \{", re.M)
+FUNCTION = re.compile(r"((?:#\[[^\]]*\]\s*)*)(\bpub )?(?:extern \"C\" )?\bfn (\w+)\s*(?:<(?:[^<>()]|->|<[^<>]*>)*>)?\(")
 
 
 def functions(text):
     """Each function of a Rattle file."""
     text = rattle(text)
-    owners = [(m.start(), closed(text, m.end() - 1), m.group(1)) for m in re.finditer(r"^impl (\w+) \{", text, re.M)]
-    for found in re.finditer(r"(#\[no_mangle\]\s*)?(\bpub )?(?:extern \"C\" )?\bfn (\w+)\s*\(", text):
+    owners = [(m.start(), closed(text, m.end() - 1), m.group(1)) for m in OWNER.finditer(text)]
+    for found in FUNCTION.finditer(text):
         end = closed(text, found.end() - 1)
         owner = next((name for start, stop, name in owners if start < found.start() < stop), "")
         given = listed(text[found.end():end - 1])
@@ -77,12 +82,17 @@ def functions(text):
         returns = re.compile(r"\s*->\s*([^{]*?)\s*(?=\{|\b(?:ghost|requires|ensures)\b)").match(text, end)
         end = returns.end() if returns else end
         clauses = []
-        while clause := re.compile(r"\s*(ghost|requires|ensures)\s*\{").match(text, end):
+        while clause := re.compile(r"\s*(ghost|requires|ensures)\s*(?:\w+\s*)?\{").match(text, end):
             end = closed(text, clause.end() - 1)
             clauses.append((clause.group(1), line(text[clause.end():end - 1])))
         header = line(text[found.start(3):end])
         answer = returns.group(1) if returns else ""
-        yield Function(owner, bool(found.group(2)), bool(found.group(1)), found.group(3), names, parameters, answer, clauses, header)
+        indent = re.match(" *", text[text.rfind("\n", 0, found.start(3)) + 1:]).group()
+        body = re.compile(rf"\s*\{{(.*?)^{indent}\}}", re.M | re.S).match(text, end)
+        exported = "no_mangle" in found.group(1)
+        yield Function(
+            owner, bool(found.group(2)), exported, found.group(3), names, parameters, answer, clauses, header, line(body.group(1)) if body else ""
+        )
 
 
 def sources(crate):
@@ -114,7 +124,21 @@ def public(crate, texts=None):
             home, named = (types[f.owner], f.owner) if f.owner else (module, f.name)
             if f.exported or f.public and seen(home, named) or not module and f.name == "main":
                 own = (*home, f.owner, f.name) if f.owner else (*home, f.name)
-                yield Call("::".join((crate, *own)), f"Rattle·{crate}·proofs.proofs." + ".".join(own), f, paths[module])
+                yield Call("::".join((crate, *own)), f"Rattle.{crate}.proofs." + ".".join(own), f, paths[module])
+
+
+def edited(path):
+    """The files that a must-fail edit changes, as it makes them, by their path. Each pair of texts goes by what those before it made."""
+    crate, texts, file, old = os.path.dirname(os.path.dirname(path)), {}, "", ""
+    for row in read(path).split("\n"):
+        word, _, rest = row.partition(":")
+        if word == "file":
+            file = os.path.join(crate, rest.strip())
+        elif word == "old":
+            old = rest[1:]
+        elif word == "new":
+            texts[file] = texts.get(file, read(file)).replace(old, rest[1:], 1)
+    return texts
 
 
 def numbered(pairs):
