@@ -1,5 +1,6 @@
 // A line of text for standard output, put together piece by piece.
-use libc::STDOUT_FILENO;
+use std::fmt;
+use std::fmt::Write;
 
 #[derive(Clone, Copy)]
 pub struct Line {
@@ -9,15 +10,19 @@ pub struct Line {
 }
 
 // Letters written to standard output, and whether they were.
-fn write(letters: &[u8], end: usize) -> bool {
+fn write(rt: &(impl Print + Eprint), letters: &[u8], end: usize) -> bool {
     if letters.len() < end {
         return false;
     }
-    let is_written = io::write_all(STDOUT_FILENO, &letters[..end]);
-    if !is_written {
-        os::fail(b"standard output");
+    standard_output::write(rt, &letters[..end])
+}
+
+// What is formatted into a line goes behind its letters.
+impl fmt::Write for Line {
+    fn write_str(&mut self, text: &str) -> fmt::Result {
+        *self = self.text(text.as_bytes());
+        Ok(())
     }
-    is_written
 }
 
 impl Line {
@@ -74,10 +79,9 @@ impl Line {
         self
     }
 
-    pub fn number(self, n: u64) -> Line {
-        let mut digits = [0u8; 20];
-        let count = io::decimal(n, &mut digits);
-        self.text(&digits[..count])
+    pub fn number(mut self, n: u64) -> Line {
+        let _ = write!(self, "{n}");
+        self
     }
 
     pub fn small(self, n: u16) -> Line {
@@ -115,9 +119,9 @@ impl Line {
     }
 
     // The line and its end written to standard output, and whether they were.
-    pub fn print(self) -> bool {
+    pub fn print(self, rt: &(impl Print + Eprint)) -> bool {
         let line = self.letter(b'\n');
         let letters = line.letters;
-        write(&letters, line.end)
+        write(rt, &letters, line.end)
     }
 }

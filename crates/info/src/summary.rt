@@ -52,7 +52,13 @@ fn put_needed(line: Line, needed: u64, present: usize) -> Line {
 }
 
 // The two lines, and whether they were written; `video` and `cursor` are how many words the plate has.
-pub fn print_setting(g: Registers, s: Setting, video: usize, cursor: usize) -> bool {
+pub fn print_setting(
+    rt: &(impl Print + Eprint),
+    g: Registers,
+    s: Setting,
+    video: usize,
+    cursor: usize,
+) -> bool {
     let line = Line::new()
         .text(b"setting: ")
         .small(s.n.0)
@@ -65,5 +71,5 @@ pub fn print_setting(g: Registers, s: Setting, video: usize, cursor: usize) -> b
     let line = put_cursor(put_border(put_display(line, s), s), s);
     let words = put_needed(Line::new().text(b"words: video "), s.video_words(), video);
     let words = put_needed(words.text(b"; cursor "), s.cursor_words(), cursor);
-    line.print() && words.print()
+    line.print(rt) && words.print(rt)
 }

@@ -94,10 +94,15 @@ fn put_rule(line: Line, why: Refusal, words: &[u32]) -> Line {
 }
 
 // One line, and whether it was written: what is judged, and the answer. `words` are the register words.
-pub fn print_verdict(judged: &[u8], answer: Answer, words: &[u32]) -> bool {
+pub fn print_verdict(
+    rt: &(impl Print + Eprint),
+    judged: &[u8],
+    answer: Answer,
+    words: &[u32],
+) -> bool {
     let line = Line::new().text(judged);
     match answer {
-        Answer::Done => line.text(b": accepted").print(),
+        Answer::Done => line.text(b": accepted").print(rt),
         Answer::Refused(why) => {
             let line = line
                 .text(b": refused ")
@@ -105,7 +110,7 @@ pub fn print_verdict(judged: &[u8], answer: Answer, words: &[u32]) -> bool {
                 .text(b" ")
                 .number(why.detail() as u64)
                 .text(b": ");
-            put_rule(line, why, words).print()
+            put_rule(line, why, words).print(rt)
         }
     }
 }

@@ -32,7 +32,13 @@ fn is_written(words: &[u32], address: usize) -> bool {
 }
 
 // The line of word k; `later` are the words behind it, and `g` holds what all of them leave.
-fn print_word(k: usize, word: u32, later: &[u32], g: Registers) -> bool {
+fn print_word(
+    rt: &(impl Print + Eprint),
+    k: usize,
+    word: u32,
+    later: &[u32],
+    g: Registers,
+) -> bool {
     let address = address_of(word);
     let line = Line::new()
         .number(k as u64)
@@ -45,17 +51,17 @@ fn print_word(k: usize, word: u32, later: &[u32], g: Registers) -> bool {
         .column(37);
     let line = put_meaning(line, g.store(word), address);
     if is_written(later, address) {
-        return line.text(b" (written again below)").print();
+        return line.text(b" (written again below)").print(rt);
     }
-    line.print()
+    line.print(rt)
 }
 
 // All lines, and whether they were written.
-pub fn print_words(words: &[u32]) -> bool {
+pub fn print_words(rt: &(impl Print + Eprint), words: &[u32]) -> bool {
     let g = stored(words);
     let mut k = 0;
     while k < words.len() {
-        if !print_word(k, words[k], &words[k + 1..], g) {
+        if !print_word(rt, k, words[k], &words[k + 1..], g) {
             return false;
         }
         k += 1;

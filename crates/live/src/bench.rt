@@ -24,7 +24,6 @@ ghost use Rattle.live.specs.Bench.{
 };
 
 use queues::Reply;
-use std::num::wrapping_add_u32;
 
 // Over the frame: words asked for, words loaded, bytes read, and how many bytes were read up to the first that is not the frame's own.
 #[derive(Clone, Copy)]
@@ -54,7 +53,7 @@ pub struct Bench {
 fn plus(a: u32, b: u32) -> u32
     ensures { result ≡ plus a b }
 {
-    wrapping_add_u32(a, b)
+    a.wrapping_add(b)
 }
 
 // A difference, 0 where there is none.
@@ -198,7 +197,7 @@ impl Bench {
     }
 
     // A word of a block is to be loaded, and fewer than eight words are held.
-    fn has_room_holds(self) -> bool
+    fn has_room(self) -> bool
         ensures { result ≡ has_room self }
     {
         let totals = self.totals;

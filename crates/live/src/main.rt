@@ -1,5 +1,7 @@
 // A plate on standard input, run as a bench would run it live: one video queue, each raster's sync, four words loaded at each ask, bytes
 // read as the display takes them. What is asked for, loaded and read goes to standard output.
+#![tactic(auto)]
+
 mod bench;
 mod run;
 mod said;
@@ -16,9 +18,10 @@ use registers::record::Registers;
 use registers::setting::Setting;
 use registers::units::{Pixels, Rasters};
 use run::run;
-use said::{say_end, say_rasters, write};
+use said::{say_end, say_rasters};
 use sheets::Parts;
 use sheets::input::take_input;
+use standard_output::write;
 
 fn wide(rasters: Rasters) -> u32 {
     rasters.0 as u32
@@ -73,7 +76,7 @@ fn idle(control: u32, rasters: u32) -> Bench {
 }
 
 // One frame with one video queue.
-fn run_frame(g: Registers, s: Setting, video: &[u32]) {
+fn run_frame(rt: &(impl Print + Eprint), g: Registers, s: Setting, video: &[u32]) {
     let mut told = [0u32; 3072];
     fill(g, s, &mut told);
     let rasters = s.v.0 as u32;
@@ -84,27 +87,27 @@ fn run_frame(g: Registers, s: Setting, video: &[u32]) {
         video,
         &mut told,
     );
-    if say_rasters(&told, rasters) {
-        say_end(after.totals, video.len());
+    if say_rasters(rt, &told, rasters) {
+        say_end(rt, after.totals, video.len());
     }
 }
 
 // A plate that is refused has one line, which says why.
-fn say_refused(why: Refusal) {
+fn say_refused(rt: &(impl Print + Eprint), why: Refusal) {
     let mut text = [0u8; 64];
     let n = outputs::text::refused(why, &mut text);
-    write(&text[..n]);
+    write(rt, &text[..n]);
 }
 
-fn run_picture(g: Registers, video: &[u32], cursor: &[u32]) {
+fn run_picture(rt: &(impl Print + Eprint), g: Registers, video: &[u32], cursor: &[u32]) {
     match judge(g, video, cursor) {
-        Checked::Refused(why) => say_refused(why),
-        Checked::Accepted(s) => run_frame(g, s, video),
+        Checked::Refused(why) => say_refused(rt, why),
+        Checked::Accepted(s) => run_frame(rt, g, s, video),
     }
 }
 
 // The register words are loaded and checked first.
-fn run_parts(parts: Parts, words: &[u32])
+fn run_parts(rt: &(impl Print + Eprint), parts: Parts, words: &[u32])
     requires { (parts.video ≤ parts.cursor) × (parts.cursor ≤ parts.sound) × (parts.sound ≤ length words.now) }
 {
     let video = parts.video;
@@ -114,27 +117,27 @@ fn run_parts(parts: Parts, words: &[u32])
     let g = verdict.registers;
     let checked = verdict.checked;
     match checked {
-        Checked::Refused(why) => say_refused(why),
-        Checked::Accepted(_) => run_picture(g, &words[video..cursor], &words[cursor..sound]),
+        Checked::Refused(why) => say_refused(rt, why),
+        Checked::Accepted(_) => run_picture(rt, g, &words[video..cursor], &words[cursor..sound]),
     }
 }
 
-fn run_plate(plate: &[u8]) {
+fn run_plate(rt: &(impl Print + Eprint), plate: &[u8]) {
     let mut words = [0u32; 16384];
     let taken = take_input(plate, &mut words);
     let answer = taken.answer;
     match answer {
-        Answer::Refused(why) => say_refused(why),
-        Answer::Done => run_parts(taken.parts, &words),
+        Answer::Refused(why) => say_refused(rt, why),
+        Answer::Done => run_parts(rt, taken.parts, &words),
     }
 }
 
-fn main() {
+fn main(rt: HostRuntime) {
     // One byte more than is taken: a longer plate is refused for its length alone.
     let mut plate = [0u8; 65537];
-    let input = standard_input::read(&mut plate);
+    let input = standard_input::read(&rt, &mut plate);
     if !input.failed {
         let n = input.count;
-        run_plate(&plate[..n]);
+        run_plate(&rt, &plate[..n]);
     }
 }

@@ -1,7 +1,10 @@
 // Standard input, read into memory that the caller lends. What a system call delivers is open; that it lies within that memory is promised.
+#![tactic(auto)]
+
 ghost use Rattle.std.specs.Prelude.{◌≤◌, ◌≡◌, length, take};
 
-use libc::STDIN_FILENO;
+use std::io;
+use std::io::Read;
 
 // How many bytes were read, which lie at the front, and whether reading failed before the input's end.
 #[derive(Clone, Copy)]
@@ -10,23 +13,27 @@ pub struct Input {
     pub failed: bool,
 }
 
-// What ended a reading was the input's end, or a failure that a read shows again.
-fn at_end() -> bool {
-    let mut probe = [0u8; 1];
-    libc::read(STDIN_FILENO, &mut probe) == 0
-}
-
 // Reads until the memory is full or the input ends; a failure is told on standard error.
-pub fn read(bytes: &mut [u8]) -> Input
+pub fn read(rt: &(impl io::Input + Eprint), bytes: &mut [u8]) -> Input
     ensures { (result.count ≤ length bytes.new) × (result.count ≡ length (take result.count bytes.new)) }
 {
-    let count = io::read_full(STDIN_FILENO, bytes);
-    let failed = count < bytes.len() && !at_end();
-    if failed {
-        os::fail(b"standard input");
+    let mut input = rt.reader();
+    let mut count = 0;
+    while count < bytes.len() {
+        match input.read(&mut bytes[count..]) {
+            Ok(0) => break,
+            Ok(more) => count += more,
+            Err(error) => {
+                standard_error::fail(rt, "standard input", error);
+                return Input {
+                    count: count,
+                    failed: true,
+                };
+            }
+        }
     }
     Input {
         count: count,
-        failed: failed,
+        failed: false,
     }
 }

@@ -1,6 +1,8 @@
 // The threshold that the program was started with.
 ghost use Rattle.std.specs.Prelude.{◌≤◌};
 
+use std::env::{Env, FillError};
+
 #[derive(Clone, Copy)]
 pub enum Threshold {
     Is(u8),
@@ -43,11 +45,11 @@ fn threshold_of(digits: &[u8]) -> Threshold {
 }
 
 // The first argument, 128 where there is none.
-pub fn asked() -> Threshold {
-    if os::arg_count() < 2 {
-        return Threshold::Is(128);
-    }
+pub fn asked(rt: &impl Env) -> Threshold {
     let mut text = [0u8; 32];
-    let n = os::arg(1, &mut text);
-    threshold_of(&text[..n])
+    match rt.arg(1, &mut text) {
+        Ok(n) => threshold_of(&text[..n]),
+        Err(FillError::NotPresent) => Threshold::Is(128),
+        Err(FillError::TooLong) => Threshold::Wrong,
+    }
 }
