@@ -5,7 +5,7 @@ use std::path::{Path, PathBuf};
 use std::process;
 
 const MISSING: &str =
-    "VOMBELISHI_LIB_DIR must name the directory of libvombelishi.a (`rt staticlib vombelishi` makes it)";
+    "VOMBELISHI_LIB_DIR must name the directory of libvombelishi.a (`tools/renew archive` makes it)";
 
 fn library() -> Option<PathBuf> {
     let folder = Path::new(&env::var_os("VOMBELISHI_LIB_DIR")?).canonicalize().ok()?;
