@@ -20,7 +20,9 @@ OneAnswer n ps r post =
     post κs a x s → post κs a y t → x ≡ y
 
 -- So are any two states of what `lent` reads of the memory at exit.
-abbrev pub OneState : {A : Type 0} (n : ℕ) (ps : List (ParamKind n)) (r : ResultKind n) (lent : (κs : Lfts n) → AtExit (ended_of n ps r) κs → A) → Out n ps r → Type 0
+abbrev pub OneState :
+    {A : Type 0} (n : ℕ) (ps : List (ParamKind n)) (r : ResultKind n) (lent : (κs : Lfts n) → AtExit (ended_of n ps r) κs → A)
+    → Out n ps r → Type 0
 OneState n ps r lent post =
     (κs : Lfts n) (a : Dens κs ps) (x y : (res_t r κs).Denot) (s t : AtExit (ended_of n ps r) κs) →
     post κs a x s → post κs a y t → (x ≡ y) × (lent κs s ≡ lent κs t)

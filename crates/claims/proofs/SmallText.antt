@@ -76,7 +76,8 @@ small_told =
 
 -- The head: no cell of the frame is a mark.
 head : picture_head small_registers small small_video [] ≡ bytes "frame 32 6 words 1 marks 0\n"
-unfolding reserved stored_of applied lowest setting_of pixel plain_code covered code cell frame_cell total marks_of digits decimal labelled head_line picture_head
+unfolding reserved stored_of applied lowest setting_of pixel plain_code covered code cell frame_cell total marks_of digits decimal labelled
+    head_line picture_head
 head = refl
 
 -- A raster's line, from its codes in runs.

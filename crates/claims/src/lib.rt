@@ -1,3 +1,2 @@
-#![tactic(auto)]
-
 // No code: what the libraries below promise together, stated in specs/ and proved in proofs/.
+#![tactic(auto)]

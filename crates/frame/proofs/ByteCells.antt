@@ -37,7 +37,8 @@ module _ (shades : List ℕ) (per d : ℕ) where
   unfolding from cell_in byte_ink
   first_same k h few =
       let whole : k ≡ 0 * per + k = rw (zero-mul per) (omega arith) in
-      let stored : get_or (replicate 8 (get_or shades 0 0)) (k - 0) 0 ≡ get_or shades 0 0 = rw (sub-zero k) (get_or-replicate 8 k (get_or shades 0 0) 0 (omega arith)) in
+      let stored : get_or (replicate 8 (get_or shades 0 0)) (k - 0) 0 ≡ get_or shades 0 0 =
+      rw (sub-zero k) (get_or-replicate 8 k (get_or shades 0 0) 0 (omega arith)) in
       let is : byte_ink shades 0 d k ≡ get_or shades 0 0 = rw (zero-div (2 ^ (k * d)), zero-mod (2 ^ d)) in
       stored ∙ sym (ap (λ (i : ℕ). bytes_ink shades per d i) whole ∙ bytes_at 0 k h ∙ is)
 

@@ -192,7 +192,8 @@ module _ (quads ws : List ℕ) (at q : ℕ) where
 
 -- A word's cells from the table of quads are those from the table of bytes.
 pub quads_shown : (table quads p r ws : List ℕ) (at : ℕ) → Quads table quads → at + 4 * length ws ≤ length p
-    → r ≡ painted p at (at + 4 * length ws) (from at (words_ink quads ws 1)) → r ≡ painted p at (at + length ws * (32 / 8)) (from at (words_ink table ws (8 / 8)))
+    → r ≡ painted p at (at + 4 * length ws) (from at (words_ink quads ws 1))
+    → r ≡ painted p at (at + length ws * (32 / 8)) (from at (words_ink table ws (8 / 8)))
 unfolding from words_ink
 quads_shown table quads p r ws at q room e =
     let k : at + 4 * length ws ≡ at + length ws * (32 / 8) = omega arith in

@@ -47,7 +47,8 @@ module _ (s : Setting) (x y : ℕ) (a : Accepted s) (h : InDisplay s x y) where
       let high = s.vde.0 - s.vds.0 in
       let r : y - s.vds.0 < high = omega arith in
       let p : x - s.ds.0 < w = omega arith in
-      let bits : high * w * s.depth ≡ n * 32 = rw (e, video_rasters s a (display_on_holds s x y h), mul_assoc, mul_assoc high (raster_words s) 32, raster_bits s a) in
+      let bits : high * w * s.depth ≡ n * 32 =
+      rw (e, video_rasters s a (display_on_holds s x y h), mul_assoc, mul_assoc high (raster_words s) 32, raster_bits s a) in
       rw (← bits) (mul-lt-mul_of_pos_right (digits_lt r p) (depth_least a.depth))
 
 pub pixel_entry : (s : Setting) (ws : List ℕ) (i : ℕ) → Accepted s → pixel ws s.depth i < 256

@@ -32,7 +32,8 @@ module _ (g : Registers) (video cursor : List ℕ) where
   picture_passed more p =
       picture_told_holds g video cursor ∙ passes_given (setting_of g) (picture_table g video cursor) (passes_first (picture_table g video cursor) more p)
 
-  pub given_summaries : (room : ℕ) → summaries_told g video cursor room ≡ given tt → Picture (setting_of g) video cursor × (entries_length (setting_of g) ≤ room)
+  pub given_summaries : (room : ℕ) → summaries_told g video cursor room ≡ given tt
+      → Picture (setting_of g) video cursor × (entries_length (setting_of g) ≤ room)
   unfolding summaries_told
   given_summaries room e =
       let short = row 13 (ltb room (entries_length (setting_of g))) 0 ∷ [] in

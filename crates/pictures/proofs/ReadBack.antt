@@ -62,4 +62,5 @@ guns_back cells o room =
     let e : length (guns_of cells) / 3 ≡ length cells = omega (arith, length_guns cells) in
     rw (guns_right cells (length o) room, e)
     (paints_painted {d = 0} room
-    (paint_as (λ k. bits 11 0 (get_or cells k 0)) (λ k a h. guns_at cells k h) (paints_of {d = 0} {l = o} {a = 0} {f = colour_read_at (guns_of cells)} room refl)))
+    (paint_as (λ k. bits 11 0 (get_or cells k 0)) (λ k a h. guns_at cells k h)
+    (paints_of {d = 0} {l = o} {a = 0} {f = colour_read_at (guns_of cells)} room refl)))

@@ -8,7 +8,8 @@ use Rattle.pictures.proofs.put_cells.Given as goal
 
 abbrev pub invariant-loop-k : goal.invariant-loop-k
 invariant-loop-k l =
-    (l.k ≤ length l.cells) × (length l.out ≡ length l.initial.out) × (sets l.out (3 * l.k) (guns_of (drop l.k l.cells)) ≡ sets l.initial.out 0 (guns_of l.cells))
+    (l.k ≤ length l.cells) × (length l.out ≡ length l.initial.out)
+    × (sets l.out (3 * l.k) (guns_of (drop l.k l.cells)) ≡ sets l.initial.out 0 (guns_of l.cells))
 
 abbrev pub decreases-loop-k : goal.decreases-loop-k
 decreases-loop-k l = length l.cells - l.k

@@ -86,7 +86,8 @@ loop-b-preserved c =
       byte_turn c.args.shades.now _ c.args.per c.args.d l.b l.k l.invariant.2
           (byte_cells c.args.shades.now c.args.per c.args.d l.b l.invariant.0 c.requires.3 _ _ _ _ c.requires.2 (rw l.invariant.2 at so_far)
           (ap (λ (m : ℕ). get_or c.args.shades.now (l.b % m) 0) (one_shifted c.args.d c.requires.4)) behind.ensures)
-          c.args.per _ _ _ (omega (arith, mul-le-mul_right c.args.per l.invariant.0, l.invariant.2)) (omega (arith, room, c.requires.0, l.invariant.2, first.len))
+          c.args.per _ _ _ (omega (arith, mul-le-mul_right c.args.per l.invariant.0, l.invariant.2))
+          (omega (arith, room, c.requires.0, l.invariant.2, first.len))
           l.invariant.3 c.put-in-loop-b.ensures,
     )
 

@@ -8,7 +8,9 @@ use Rattle.marks.proofs.spans.masked_span.Given as goal
 
 abbrev pub invariant-loop-k : goal.invariant-loop-k
 invariant-loop-k l =
-    (l.from ≤ l.k) × (l.k ≤ l.to) × (l.count ≡ total (word_from l.bytes l.words l.from) (l.k - l.from)) × (l.mask ≡ words_mask l.masks l.words l.from (l.k - l.from))
+    (l.from ≤ l.k) × (l.k ≤ l.to)
+    × (l.count ≡ total (word_from l.bytes l.words l.from) (l.k - l.from))
+    × (l.mask ≡ words_mask l.masks l.words l.from (l.k - l.from))
 
 abbrev pub decreases-loop-k : goal.decreases-loop-k
 decreases-loop-k l = l.to - l.k

@@ -8,7 +8,8 @@ use Rattle.outputs.proofs.number.put_number.Given as goal
 
 abbrev pub invariant-loop-k : goal.invariant-loop-k
 invariant-loop-k l =
-    (l.k ≤ 10) × (l.i + l.k ≡ l.at + places l.n) × (length l.out ≡ length l.initial.out) × (sets l.out l.i (digits l.n l.k) ≡ sets l.initial.out l.at (decimal l.n))
+    (l.k ≤ 10) × (l.i + l.k ≡ l.at + places l.n) × (length l.out ≡ length l.initial.out)
+    × (sets l.out l.i (digits l.n l.k) ≡ sets l.initial.out l.at (decimal l.n))
 
 abbrev pub decreases-loop-k : goal.decreases-loop-k
 decreases-loop-k l = l.k

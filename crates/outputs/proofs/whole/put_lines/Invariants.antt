@@ -9,7 +9,8 @@ use Rattle.outputs.proofs.whole.put_lines.Given as goal
 
 abbrev pub invariant-loop-k : goal.invariant-loop-k
 invariant-loop-k l =
-    (l.k ≤ 1025) × (l.k ≤ lines_for (picture_told l.g l.video l.cursor)) × (l.at ≡ length (first_lines l.g l.video l.cursor (picture_told l.g l.video l.cursor) l.k))
+    (l.k ≤ 1025) × (l.k ≤ lines_for (picture_told l.g l.video l.cursor))
+    × (l.at ≡ length (first_lines l.g l.video l.cursor (picture_told l.g l.video l.cursor) l.k))
     × (l.out ≡ sets l.initial.out 0 (first_lines l.g l.video l.cursor (picture_told l.g l.video l.cursor) l.k)) × (length l.bytes ≡ 8256)
 
 abbrev pub decreases-loop-k : goal.decreases-loop-k
