@@ -165,6 +165,7 @@ impl Bench {
     }
 
     // What the last call did: a load that was not refused, or a read, whose byte is held against the frame's own.
+    #[tactic(auto, unfolding(crate::specs::Bench::counted_of))]
     fn counted(self, reply: Reply, words: &[u32]) -> Bench
         ensures { result ≡ counted_of self reply words.now }
     {
@@ -180,6 +181,7 @@ impl Bench {
     }
 
     // Where the queue asks and no block is being loaded, a block of four begins.
+    #[tactic(auto, unfolding(crate::specs::Bench::block_of))]
     fn with_block(self, asks: u16) -> Bench
         ensures { result ≡ block_of self asks }
     {
@@ -212,6 +214,7 @@ impl Bench {
     }
 
     // The next raster begins, with vertical sync.
+    #[tactic(auto, unfolding(crate::specs::Bench::next_raster))]
     fn next_raster(mut self) -> Bench
         ensures { result ≡ next_raster self }
     {
@@ -221,6 +224,7 @@ impl Bench {
     }
 
     // The end of the raster's sync: the table has the words that it asks for, and the bytes that the raster's display takes.
+    #[tactic(auto, unfolding(crate::specs::Bench::displayed))]
     fn displayed(self, told: &[u32]) -> Bench
         ensures { result ≡ displayed self told.now }
     {
@@ -230,6 +234,7 @@ impl Bench {
     }
 
     // The call to be made on a raster that is not finished.
+    #[tactic(auto, unfolding(crate::specs::Bench::raster_call))]
     fn raster_call(self, words: &[u32], told: &[u32]) -> Bench
         ensures { result ≡ raster_call self words.now told.now }
     {
@@ -247,6 +252,7 @@ impl Bench {
     }
 
     // Behind the last raster nothing is asked for.
+    #[tactic(auto, unfolding(crate::specs::Bench::chosen_of))]
     fn chosen(self, words: &[u32], told: &[u32]) -> Bench
         ensures { result ≡ chosen_of self words.now told.now }
     {
@@ -257,6 +263,7 @@ impl Bench {
     }
 
     // The totals, in the raster's row.
+    #[tactic(auto, unfolding(crate::specs::Bench::noted))]
     fn note(self, told: &mut [u32])
         ensures { told.new ≡ noted self told.old }
     {
