@@ -1,4 +1,4 @@
--- The words of one displayed raster: they lie in the frame's list, hold DE_DS pixels, and their pixel p is the frame's logical pixel
+-- The words of one displayed raster: they lie in the frame's list, hold DE-DS pixels, and their pixel p is the frame's logical pixel
 -- at display position p of that raster. Once for every depth.
 use Prim.Native.Nat.{ℕ, ◌+◌, ◌*◌, ◌-◌, ◌/◌, ◌<◌, ◌≤◌}
 use mathlib.Core.List.{List}

@@ -14,7 +14,7 @@ pub record On (g : Registers) (video cursor : List ℕ) (run : FrameRun) : Type 
   pub video_is : run.video ≡ video
   pub cursor_is : run.cursor ≡ cursor
 
--- A picture that is not refused: its setting is accepted, and its lists are of the sizes that it asks for; and room for N-as-V cells.
+-- A picture that is not refused: its setting is accepted, and its lists are of the sizes that it asks for; and room for N·V cells.
 pub record Right (g : Registers) (video cursor before : List ℕ) : Type 0 where
   pub picture : picture_told g video cursor ≡ given (setting_of g)
   pub room : cells (setting_of g) ≤ length before

@@ -50,6 +50,6 @@ uncovered s cursor x y = in_display s x y && not (covered s cursor x y)
 abbrev pub SamePixels : Setting → List ℕ → List ℕ → List ℕ → Type 0
 SamePixels s cursor video other = (x y : ℕ) → uncovered s cursor x y ≡ true → logical s video x y ≡ logical s other x y
 
--- The frame that lent memory holds: its first N-as-V cells.
+-- The frame that lent memory holds: its first N·V cells.
 abbrev pub frame_in : Setting → List ℕ → List ℕ
 frame_in s out = take (cells s) out

@@ -39,7 +39,7 @@ use Rattle.stretch.proofs.raster_words_answer.Reads as answer_reads
 use Rattle.sound.specs.Pair.{pair_says}
 use Rattle.sound.specs.declared.Sides.{Sides}
 use Rattle.sound.proofs.pair.Kinds as pair_kinds
-use Rattle.sound.proofs.pair.Reads as Pair-reads
+use Rattle.sound.proofs.pair.Reads as pair_reads
 use Rattle.sound.proofs.play.Kinds as play_kinds
 use Rattle.sound.proofs.play.Reads as play_reads
 use Rattle.plates.specs.Read.{read_says}
@@ -61,7 +61,7 @@ use Rattle.outputs.proofs.text.refused.Reads as refused_reads
 use Rattle.outputs.proofs.whole.text.Kinds as text_kinds
 use Rattle.outputs.proofs.whole.text.Reads as text_reads
 use Rattle.outputs.proofs.text.line.Kinds as line_kinds
-use Rattle.outputs.proofs.text.line.Reads as line_reads_lem
+use Rattle.outputs.proofs.text.line.Reads as line_reads
 use Rattle.outputs.proofs.strips.strip.Kinds as strip_kinds
 use Rattle.outputs.proofs.strips.strip.Reads as strip_reads
 use Rattle.outputs.proofs.blocks.block.Kinds as block_kinds
@@ -298,7 +298,7 @@ pub record PairRun : Type 0 where
   pub answer : Told Sides
 
 abbrev pub pair : Call
-pair = call 0 pair_kinds.ps pair_kinds.r Pair-reads.Post PairRun λ κs a x s. record { byte = a.0; stereo = a.1.0; answer = pair_says x }
+pair = call 0 pair_kinds.ps pair_kinds.r pair_reads.Post PairRun λ κs a x s. record { byte = a.0; stereo = a.1.0; answer = pair_says x }
 
 -- Plate files: read, copied out, written.
 pub record ReadRun : Type 0 where
@@ -374,7 +374,7 @@ pub record PieceRun (A : Type 0) : Type 0 where
   pub after : List ℕ
 
 abbrev pub line : Call
-line = call 3 line_kinds.ps line_kinds.r line_reads_lem.Post (PieceRun PictureLists)
+line = call 3 line_kinds.ps line_kinds.r line_reads.Post (PieceRun PictureLists)
     λ κs a x s. record {
       of = record { registers = a.0; video = a.1.0.now; cursor = a.1.1.0.now };
       index = a.1.1.1.0;

@@ -27,7 +27,7 @@ mod quads;
 mod rows;
 mod units;
 
-// All N.V cells of a frame, raster after raster; the lent cells beyond are untouched. Refusals: the setting's, 11, 13.
+// All N·V cells of a frame, raster after raster; the lent cells beyond are untouched. Refusals: the setting's, 11, 13.
 pub fn frame(g: Registers, video: &[u32], cursor: &[u32], out: &mut [u16]) -> Answer
     ensures { (answer_says result ≡ frame_told g video.now cursor.now (length out.old))
         × (out.new ≡ frame_leaves g video.now cursor.now out.old) }

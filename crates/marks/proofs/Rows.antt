@@ -61,7 +61,7 @@ module _ (s : Setting) (a : Accepted s) (video cursor pixels : List ℕ) where
   covered_row_none : (y : ℕ) → ((x : ℕ) → InDisplay s x y → Reached s x y → ⊥) → total (covered_bright s video cursor pixels y) s.n.0 ≡ 0
   covered_row_none y h = total_none (covered_bright s video cursor pixels y) s.n.0 (λ x l. covered_none y x (h x))
 
-  -- A displayed raster's bright pixels are the next DE_DS pixels of the words.
+  -- A displayed raster's bright pixels are the next DE-DS pixels of the words.
   row_display : (r : ℕ) → r < s.vde.0 - s.vds.0
       → total (display_bright s video pixels (s.vds.0 + r)) s.n.0
       ≡ total (λ p. pixel_bright pixels video s.depth (r * (s.de.0 - s.ds.0) + p)) (s.de.0 - s.ds.0)

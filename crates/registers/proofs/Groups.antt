@@ -11,9 +11,9 @@ use Rattle.registers.specs.Lowest.{lowest}
 use Rattle.registers.specs.Needed.{among}
 use Rattle.registers.proofs.First.{lowest_here, lowest_more}
 
-pub and-false : (b : Bool) → b && false ≡ false
-and-false true = refl
-and-false false = refl
+pub and_false : (b : Bool) → b && false ≡ false
+and_false true = refl
+and_false false = refl
 
 pub or_false : (b : Bool) → b || false ≡ b
 or_false true = refl
@@ -90,11 +90,11 @@ module _ (first last : ℕ) (test : ℕ → Bool) where
 
   pub group_more : (slot : ℕ) → slot ≤ last / 4 → last < 256 → test slot ≡ false
       → lowest group (64 - slot) slot ≡ lowest group (64 - (slot + 1)) (slot + 1)
-  group_more slot high below e = lowest_more group 64 slot (omega arith) (rw (e, and-false))
+  group_more slot high below e = lowest_more group 64 slot (omega arith) (rw (e, and_false))
 
   pub group_end : (slot : ℕ) → slot ≡ last / 4 + 1 → last < 256 → lowest group (64 - slot) slot ≡ 64
   group_end slot e below =
-      let none = lowest_none group (64 - slot) slot (λ j i. rw (lt-leb j (last / 4) (omega arith), and-false)) in
+      let none = lowest_none group (64 - slot) slot (λ j i. rw (lt-leb j (last / 4) (omega arith), and_false)) in
       omega arith
 
 -- one slot alone

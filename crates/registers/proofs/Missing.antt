@@ -20,7 +20,7 @@ use Rattle.registers.specs.Stereo.{frequency_in, sound_missing, sound_wrong}
 use Rattle.registers.specs.inner.Groups.{missing_for, unwritten_among, zero_stereo}
 use Rattle.registers.specs.declared.record.Registers.{Registers}
 use Rattle.registers.proofs.First.{lowest_here}
-use Rattle.registers.proofs.Groups.{and-false, or_false, or_and, lowest_same, lowest_skip, lowest_or, lowest_alone}
+use Rattle.registers.proofs.Groups.{and_false, or_false, or_and, lowest_same, lowest_skip, lowest_or, lowest_alone}
 
 -- entries 0 to the last in use
 entries_among : (entries j : ℕ) → 1 ≤ entries → among 0 (4 * (entries - 1)) j ≡ ltb j entries
@@ -31,7 +31,7 @@ entries_among entries j some = go (lt_or_le j entries)
 
     go : (j < entries) ⊎ (entries ≤ j) → among 0 (4 * (entries - 1)) j ≡ ltb j entries
     go (inl h) = rw (last, lt-ltb j entries h, le-leb 0 j (omega arith), le-leb j (entries - 1) (omega arith))
-    go (inr h) = rw (last, le-ltb j entries h, lt-leb j (entries - 1) (omega arith), and-false)
+    go (inr h) = rw (last, le-ltb j entries h, lt-leb j (entries - 1) (omega arith), and_false)
 
 module _ (w : List Bool) (entries : ℕ) (some : 1 ≤ entries) where
   pub missing_cursor_off : lowest (missing_for w entries false) 64 0
@@ -89,7 +89,7 @@ module _ (g : Registers) where
       go : (j : ℕ) (b : Bool) → eqb j 56 ≡ b
           → (b || (written_at g CONTROL && needed_under g j)) && not (written_in g j) ≡ needed_under g j && not (written_in g j)
       go j false q = rw e
-      go j true q = rw (eqb-true j 56 q, e) (sym (and-false (needed_under g 56)))
+      go j true q = rw (eqb-true j 56 q, e) (sym (and_false (needed_under g 56)))
 
   pub sound_missing_holds : lowest (sound_missing g) 64 0
       ≡ min (lowest (unwritten_among g.written (STEREO 7) (STEREO 6)) 64 0) (pick (not (written_in g 48)) 48 64)

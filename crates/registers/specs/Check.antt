@@ -37,7 +37,7 @@ abbrev pub vertical_rule : Setting → Bool
 vertical_rule s =
     leb s.vs.0 s.v.0 && (display_rule s || (not (display_on s) && (not (border_on s) || border_rule s)))
 
--- (DE_DS)·d is a multiple of 32.
+-- (DE-DS)·d is a multiple of 32.
 abbrev pub width_rule : Setting → Bool
 width_rule s = eqb ((s.de.0 - s.ds.0) * s.depth % 32) 0
 

@@ -52,7 +52,7 @@ pub record EveryRule (g : Registers) : Type 0 where
   pub sync_width : (setting_of g).cursor ≡ true → 5 * pixel_rate g ≤ 6 * (setting_of g).hs.0
   -- 7
   pub vertical : Vertical (setting_of g)
-  -- 8: (DE_DS)·d is a multiple of 32
+  -- 8: (DE-DS)·d is a multiple of 32
   pub width : ((setting_of g).de.0 - (setting_of g).ds.0) * (setting_of g).depth % 32 ≡ 0
   -- 9: where the cursor is on, its sub-position is 0 and VCE ≤ V
   pub cursor : (setting_of g).cursor ≡ true → (sub_position g ≡ 0) × ((setting_of g).vce.0 ≤ (setting_of g).v.0)

@@ -36,7 +36,7 @@ display_on s = ltb s.vds.0 s.vde.0
 abbrev pub border_on : Setting → Bool
 border_on s = ltb s.vbs.0 s.vbe.0
 
--- A displayed raster has (DE_DS)·d/32 words.
+-- A displayed raster has (DE-DS)·d/32 words.
 unfoldable pub raster_words : Setting → ℕ
 raster_words s = (s.de.0 - s.ds.0) * s.depth / 32
 
@@ -44,6 +44,6 @@ raster_words s = (s.de.0 - s.ds.0) * s.depth / 32
 unfoldable pub video_words : Setting → ℕ
 video_words s = pick (display_on s) ((s.de.0 - s.ds.0) * (s.vde.0 - s.vds.0) * s.depth / 32) 0
 
--- and 2·(VCE_VCS) cursor words, 0 if the cursor is off.
+-- and 2·(VCE-VCS) cursor words, 0 if the cursor is off.
 unfoldable pub cursor_words : Setting → ℕ
 cursor_words s = pick s.cursor (2 * (s.vce.0 - s.vcs.0)) 0

@@ -85,7 +85,7 @@ impl Setting {
                 | (!self.display_on() & (!self.border_on() | self.is_border_right())))
     }
 
-    // (DE_DS)·d is a multiple of 32
+    // (DE-DS)·d is a multiple of 32
     fn is_width_right(self) -> bool
         ensures { result ≡ width_rule self }
     {

@@ -8,7 +8,7 @@ use Rattle.sound.specs.declared.Played.{Played}
 use Rattle.sound.specs.declared.Pairing.{Pairing}
 use Rattle.sound.specs.declared.Pairing.TheVariants as pairing
 use Rattle.sound.proofs.pair.Kinds as pair_kinds
-use Rattle.sound.proofs.pair.Reads as Pair-reads
+use Rattle.sound.proofs.pair.Reads as pair_reads
 use Rattle.sound.proofs.play.Kinds as play_kinds
 use Rattle.sound.proofs.play.Reads as play_reads
 
@@ -21,7 +21,7 @@ same_pairing (pairing.Refused r) (pairing.Refused q) e = ap pairing.Refused (sam
 same_played : (x y : Played) → x.counter ≡ y.counter → x.answer ≡ y.answer → x ≡ y
 same_played x y c a = λ i. record { counter = c i; answer = a i }
 
-pub one_pair : OneAnswer 0 pair_kinds.ps pair_kinds.r Pair-reads.Post
+pub one_pair : OneAnswer 0 pair_kinds.ps pair_kinds.r pair_reads.Post
 one_pair κs a x y s t p q = same_pairing x y (p ∙ sym q)
 
 pub one_play : OneState 2 play_kinds.ps play_kinds.r (λ κs s. s.1.1.1.0.now) play_reads.Post

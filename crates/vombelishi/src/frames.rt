@@ -7,7 +7,7 @@ use crate::code::{SHORT, answered};
 use crate::record::{lacks, record_of};
 use registers::units::Rasters;
 
-// All N.V cells; 13 for slices shorter than 64, then the setting's, 11, 13.
+// All N·V cells; 13 for slices shorter than 64, then the setting's, 11, 13.
 pub fn vom_frame(
     values: &[u32],
     written: &[u8],

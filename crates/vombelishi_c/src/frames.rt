@@ -3,7 +3,7 @@ ghost use Rattle.std.specs.Prelude.{◌≡◌, length};
 ghost use Rattle.vombelishi.specs.Code.{answer_code};
 ghost use Rattle.vombelishi.specs.Pictures.{frame_call, frame_call_leaves, raster_call, raster_call_leaves};
 
-// All N.V cells; 13 for slices shorter than 64, then the setting's, 11, 13.
+// All N·V cells; 13 for slices shorter than 64, then the setting's, 11, 13.
 #[unsafe(no_mangle)]
 pub extern "C" fn vom_frame(
     values: &[u32],

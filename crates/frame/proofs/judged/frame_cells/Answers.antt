@@ -1,4 +1,4 @@
--- N-as-V cells, as many as an index counts: both factors are small in an accepted setting.
+-- N·V cells, as many as an index counts: both factors are small in an accepted setting.
 use native.Mathlib.Omega.{arith}
 use Rattle.frame.proofs.Calls.{cells_most}
 use Rattle.frame.proofs.judged.frame_cells.Goals as goal
