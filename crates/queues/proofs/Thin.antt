@@ -15,7 +15,10 @@ use denote.Builtin.{u32, RefMutOf}
 use denote.Signature.{plain}
 use denote.Struct.Laws as LL
 use denote.Exit.{yes}
-use denote.Triple.Statement.{Contract}
+use denote.Triple.Statement.{Contract, Triple}
+use contract.Running.{Running}
+use prog.Model.{Model}
+use prog.Wired.{Wired}
 use denote.Triple.Entry.{Args, Res}
 use denote.Triple.Spec.{triple_of}
 use denote.Triple.Clauses.{AtExit, Clauses, Ended, closing}
@@ -25,6 +28,15 @@ use Rattle.queues.specs.declared.Step.{Step}
 use Rattle.queues.specs.contracts.Queue as Q
 use Rattle.queues.proofs.Queue.TheLaws as Q'
 use Rattle.queues.specs.contracts.Reply as R
+use Rattle.queues.specs.Steps.{load_of, read_of, vertical_of, ask_of}
+use Rattle.queues.proofs.lent.load.Symbol as load
+use Rattle.queues.proofs.lent.load.Met as load_met
+use Rattle.queues.proofs.lent.read.Symbol as read
+use Rattle.queues.proofs.lent.read.Met as read_met
+use Rattle.queues.proofs.lent.vertical_sync.Symbol as vertical_sync
+use Rattle.queues.proofs.lent.vertical_sync.Met as vertical_sync_met
+use Rattle.queues.proofs.lent.ask.Symbol as ask
+use Rattle.queues.proofs.lent.ask.Met as ask_met
 use Rattle.queues.proofs.Reply.TheLaws as R'
 
 -- The contract of the lent function.
@@ -74,3 +86,21 @@ module _ {M : Type 1} {𝓤 : Ura M} (𝓛 : Logic 𝓤) where
 
   pub reply_typed : (r : Reply) → Is R.the_row r (reply_vals r) → T (has_ty R'.mir (reply_val r)) × WT (reply_val r)
   reply_typed r is = ((LL.lawful R.the_type R'.the_laws 𝓛).typed r (reply_vals r) is).0
+
+-- Each function on a lent queue, in every model and wherever its code runs, meets the contract of a lent function of its own meaning.
+pub record ThinMeets (M : Type 1) : Type 2 where
+  pub of_load :
+      (𝓤 : Ura M) (𝓛 : Logic 𝓤) (𝓜 : Model 𝓤 𝓛.H) (𝓡 : Running 𝓤 𝓛.H 𝓜) → Wired 𝓡.env load.code
+      → Triple 𝓤 (𝓡.run (𝓡.env load.name)) (Lent load_of 𝓤 𝓛)
+  pub of_read :
+      (𝓤 : Ura M) (𝓛 : Logic 𝓤) (𝓜 : Model 𝓤 𝓛.H) (𝓡 : Running 𝓤 𝓛.H 𝓜) → Wired 𝓡.env read.code
+      → Triple 𝓤 (𝓡.run (𝓡.env read.name)) (Lent read_of 𝓤 𝓛)
+  pub of_vertical_sync :
+      (𝓤 : Ura M) (𝓛 : Logic 𝓤) (𝓜 : Model 𝓤 𝓛.H) (𝓡 : Running 𝓤 𝓛.H 𝓜) → Wired 𝓡.env vertical_sync.code
+      → Triple 𝓤 (𝓡.run (𝓡.env vertical_sync.name)) (Lent vertical_of 𝓤 𝓛)
+  pub of_ask :
+      (𝓤 : Ura M) (𝓛 : Logic 𝓤) (𝓜 : Model 𝓤 𝓛.H) (𝓡 : Running 𝓤 𝓛.H 𝓜) → Wired 𝓡.env ask.code
+      → Triple 𝓤 (𝓡.run (𝓡.env ask.name)) (Lent ask_of 𝓤 𝓛)
+
+pub thin_meets : {M : Type 1} → ThinMeets M
+thin_meets = record { of_load = load_met.met; of_read = read_met.met; of_vertical_sync = vertical_sync_met.met; of_ask = ask_met.met }
