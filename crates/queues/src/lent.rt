@@ -1,8 +1,8 @@
 // The steps over a queue that is lent: each runs the step by value on the record, and stores the record that it leaves.
-ghost use Rattle.std.specs.Prelude.{◌≡◌};
+ghost use Rattle.std.specs.Prelude.{ℕ, ◌≡◌};
 ghost use Rattle.queues.specs.Steps.{load_of, read_of, vertical_of, ask_of};
 
-use crate::{Queue, Reply};
+use crate::{Queue, Reply, Step};
 
 pub fn load(q: &mut Queue, word: u32) -> Reply
     ensures { (q.new ≡ (load_of q.old word).queue) × (result ≡ (load_of q.old word).reply) }
@@ -34,4 +34,16 @@ pub fn ask(q: &mut Queue, words: u32) -> Reply
     let step = (*q).ask(words);
     *q = step.queue;
     step.reply
+}
+
+// What the four have in common, of any step and whatever it means: the queue that the step leaves is stored, and its reply is answered.
+fn thin<F: FnOnce(Queue, u32) -> Step>(q: &mut Queue, n: u32, step: F) -> Reply
+    ghost means: { Queue → ℕ → Step }
+    requires called { F.pre step q.old n }
+    requires meant { (s : Step) → F.post step q.old n s → s ≡ means q.old n }
+    ensures { (q.new ≡ (means q.old n).queue) × (result ≡ (means q.old n).reply) }
+{
+    let left = step(*q, n);
+    *q = left.queue;
+    left.reply
 }
