@@ -20,19 +20,17 @@ pub fn least(a: usize, b: usize) -> usize
 pub fn joined(a: u8, b: u8, c: u8, d: u8) -> u32
     ensures { result ≡ word a b c d }
 {
-    a as u32 + b as u32 * 0x100 + c as u32 * 0x1_0000 + d as u32 * 0x100_0000
+    u32::from_le_bytes([a, b, c, d])
 }
 
 // The first words of a list of bytes, as many as it has, stored in order as far as there is room.
 pub fn copy_words(bytes: &[u8], count: usize, out: &mut [u32])
     ensures { out.new ≡ sets out.old 0 (words_of (take (4 * count) bytes.now)) }
 {
-    let end = least(least(count, bytes.len() / 4), out.len());
-    let mut k = 0;
-    while k < end {
+    let end = count.min(bytes.len() / 4).min(out.len());
+    for k in 0..end {
         let at = 4 * k;
         out[k] = joined(bytes[at], bytes[at + 1], bytes[at + 2], bytes[at + 3]);
-        k += 1;
     }
 }
 
@@ -41,10 +39,7 @@ fn put_word(out: &mut [u8], at: usize, word: u32)
     requires { at + 4 ≤ length out.old }
     ensures { out.new ≡ sets out.old at (bytes_of (word ∷ [])) }
 {
-    out[at] = (word % 0x100) as u8;
-    out[at + 1] = (word / 0x100 % 0x100) as u8;
-    out[at + 2] = (word / 0x1_0000 % 0x100) as u8;
-    out[at + 3] = (word / 0x100_0000 % 0x100) as u8;
+    out[at..at + 4].copy_from_slice(&word.to_le_bytes());
 }
 
 // The bytes of all words, stored from a place on; none where they do not all fit.
@@ -52,13 +47,10 @@ pub fn put_words(out: &mut [u8], at: usize, words: &[u32])
     ensures { out.new
         ≡ sets out.old at (text_in (length out.old - at) (bytes_of words.now)) }
 {
-    let room = out.len() - least(at, out.len());
-    if room / 4 < words.len() {
+    if out.len().saturating_sub(at) / 4 < words.len() {
         return;
     }
-    let mut k = 0;
-    while k < words.len() {
-        put_word(out, at + 4 * k, words[k]);
-        k += 1;
+    for (k, word) in words.iter().enumerate() {
+        put_word(out, at + 4 * k, *word);
     }
 }
