@@ -2,6 +2,7 @@
 #![tactic(auto)]
 
 pub mod input;
+pub mod sheet;
 
 ghost use Rattle.std.specs.Prelude.{◌≡◌, length};
 ghost use Rattle.refusals.specs.Refusals.{answer_says, refusal};

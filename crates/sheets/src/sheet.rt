@@ -1,0 +1,48 @@
+// A plate that came in on standard input as its four lists, each a part of the words that the caller lends.
+ghost use Rattle.std.specs.Prelude.{◌≡◌, ◌≤◌, length, MatchResult};
+ghost use Rattle.refusals.specs.Refusals.{refusal};
+ghost use Rattle.sheets.specs.Input.{input_told};
+ghost use Rattle.sheets.specs.Sheet.{part};
+ghost use Rattle.sheets.specs.Lists.{Lists};
+
+use crate::Parts;
+use crate::input::take_input;
+use refusals::{Answer, Refusal};
+
+#[derive(Clone, Copy)]
+pub struct Sheet<'a> {
+    pub registers: &'a [u32],
+    pub video: &'a [u32],
+    pub cursor: &'a [u32],
+    pub sound: &'a [u32],
+}
+
+impl<'a> Sheet<'a> {
+    // The lists that stand one after another among some words.
+    fn cut(words: &'a [u32], parts: Parts) -> Sheet<'a>
+        requires { (parts.video ≤ parts.cursor) × (parts.cursor ≤ parts.sound) × (parts.sound ≤ parts.end) × (parts.end ≤ length words.now) }
+        ensures { (result.registers.now ≡ part words.now 0 parts.video)
+            × (result.video.now ≡ part words.now parts.video parts.cursor)
+            × (result.cursor.now ≡ part words.now parts.cursor parts.sound)
+            × (result.sound.now ≡ part words.now parts.sound parts.end) }
+    {
+        Sheet {
+            registers: &words[..parts.video],
+            video: &words[parts.video..parts.cursor],
+            cursor: &words[parts.cursor..parts.sound],
+            sound: &words[parts.sound..parts.end],
+        }
+    }
+
+    // The lists of a plate, in lent words that have room for those of the longest: 15, 14.
+    pub fn of_input(file: &[u8], words: &'a mut [u32; 16384]) -> Result<Sheet<'a>, Refusal>
+        ensures { MatchResult result (Lists file.now) (λ why. input_told file.now ≡ refusal why) }
+    {
+        let taken = take_input(file, words);
+        let answer = taken.answer;
+        match answer {
+            Answer::Refused(why) => Err(why),
+            Answer::Done => Ok(Sheet::cut(words, taken.parts)),
+        }
+    }
+}
