@@ -1,13 +1,12 @@
 -- What a queue's numbers allow: a full one is told by its words or its count, a word's place lies inside, nothing is taken of an empty one.
-use Prim.Native.Nat.{ℕ, ◌+◌, ◌-◌, ◌*◌, ◌^◌, ◌<◌, ◌≤◌}
+use Prim.Native.Nat.{ℕ, ◌-◌, ◌*◌, ◌^◌, ◌<◌, ◌≤◌}
 use mathlib.Core.Bool.{false}
 use mathlib.Core.Path.{◌≡◌}
 use native.Mathlib.Omega.{arith}
 use borrow.Author.Tests.{ltb-true, ltb-false, eqb-false, leb-false}
 use lib.Dec.{eqb, ltb, leb}
 use Rattle.buffers.proofs.Tests.{or_neither}
-use Rattle.queues.specs.Queue.{queue_depth, around, Fit, is_full, is_empty}
-use Rattle.queues.specs.Steps.{behind}
+use Rattle.queues.specs.Queue.{queue_depth, around, is_full, is_empty}
 use Rattle.queues.specs.declared.Ring.{Ring}
 use Rattle.queues.proofs.Fits.{by_test}
 
@@ -19,14 +18,6 @@ around_lt depth place h =
 module _ (r : Ring) where
   pub has_room_holds : is_full r ≡ false → r.held < queue_depth r.kind
   has_room_holds e = leb-false (queue_depth r.kind) r.held (or_neither (leb (queue_depth r.kind) r.held) (eqb r.count (2 ^ 64 - 1)) e).0
-
-  pub behind_lt : Fit r → is_full r ≡ false → behind r < 8
-  behind_lt f e = omega (arith, around_lt (queue_depth r.kind) (r.place + r.held) (omega (arith, f.place, has_room_holds e)), f.deep)
-
-  pub counts_on : is_full r ≡ false → r.count < 2 ^ 64 → r.count + 1 < 2 ^ 64
-  counts_on e h =
-      let most = eqb-false r.count (2 ^ 64 - 1) (or_neither (leb (queue_depth r.kind) r.held) (eqb r.count (2 ^ 64 - 1)) e).1 in
-      omega (arith, h, most)
 
   pub some_held : is_empty r ≡ false → 1 ≤ r.held
   some_held e = omega (arith, eqb-false r.held 0 e)

@@ -1,8 +1,16 @@
 -- A queue's record: its depth, a fresh one, when it is fit, and what it holds.
-use Rattle.std.specs.Prelude.{ℕ, ◌*◌, ◌-◌, ◌/◌, ◌%◌, ◌^◌, ◌<◌, ◌≤◌, Bool, ◌&&◌, ◌||◌, eqb, ltb, leb, get_or, replicate}
+use Rattle.std.specs.Prelude.{◌≡◌, ℕ, ◌*◌, ◌-◌, ◌/◌, ◌%◌, ◌^◌, ◌<◌, ◌≤◌, Bool, ◌&&◌, ◌||◌, eqb, ltb, leb, get_or, replicate}
 use Rattle.buffers.specs.Pick.{pick}
+use Rattle.queues.specs.declared.Kind.{Kind}
+use Rattle.queues.specs.declared.Kind.TheVariants.{Video, Cursor, Sound}
 use Rattle.queues.specs.declared.Queue.{Queue}
 use Rattle.queues.specs.declared.Ring.{Ring}
+
+-- A kind's numbers: 0 is video, 1 cursor, any other sound.
+abbrev pub IsOfKind : ℕ → Kind → Type 0
+IsOfKind n Video = n ≡ 0
+IsOfKind n Cursor = n ≡ 1
+IsOfKind n Sound = 1 < n
 
 -- Video eight words, cursor and sound four.
 abbrev pub queue_depth : ℕ → ℕ

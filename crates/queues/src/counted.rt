@@ -1,51 +1,19 @@
 // What a queue counts, step by step: depth, fitness, the place behind the last word, a word put in, a byte taken out, words asked for.
 ghost use Rattle.std.specs.Prelude.{◌≡◌, false, ◌<◌, ◌+◌};
-ghost use Rattle.buffers.specs.Pick.{pick};
-ghost use Rattle.queues.specs.Queue.{queue_depth, around, is_fit, Fit, is_full, is_empty, asks_bit};
-ghost use Rattle.queues.specs.Steps.{behind, ring_put, up_to, asked_by, ring_asked, word_done, byte_taken};
+ghost use Rattle.queues.specs.Queue.{queue_depth, is_fit, Fit, is_full, is_empty, asks_bit};
+ghost use Rattle.queues.specs.Steps.{behind, ring_put, asked_by, ring_asked, word_done, byte_taken};
 
-use crate::Ring;
-
-// A place around the end of a ring.
-fn around(depth: u32, place: u32) -> u32
-    ensures { result ≡ around depth place }
-{
-    if place < depth {
-        return place;
-    }
-    place - depth
-}
-
-// So many words where a test holds, else none.
-pub(crate) fn words_if(test: bool, words: u32) -> u32
-    ensures { result ≡ pick test words 0 }
-{
-    if test {
-        return words;
-    }
-    0
-}
-
-// A sum up to a limit.
-fn up_to(limit: u32, a: u32, b: u32) -> u32
-    ensures { result ≡ up_to limit a b }
-{
-    let sum = a as u64 + b as u64;
-    if (limit as u64) < sum {
-        return limit;
-    }
-    sum as u32
-}
+use crate::{Kind, Ring};
 
 impl Ring {
     // How many words a queue holds.
     pub(crate) fn depth(self) -> u32
         ensures { result ≡ queue_depth self.kind }
     {
-        if self.kind == 0 {
-            return 8;
+        match Kind::from(self.kind) {
+            Kind::Video => 8,
+            Kind::Cursor | Kind::Sound => 4,
         }
-        4
     }
 
     pub(crate) fn is_fit(self) -> bool
@@ -57,13 +25,13 @@ impl Ring {
             & (self.coming <= depth)
             & (self.taken < 4)
             & ((self.taken == 0) | (0 < self.held))
-            & ((self.held as u64) <= self.count)
+            & (u64::from(self.held) <= self.count)
     }
 
     pub(crate) fn is_full(self) -> bool
         ensures { result ≡ is_full self }
     {
-        (self.depth() <= self.held) | (self.count == 0xFFFF_FFFF_FFFF_FFFF)
+        (self.depth() <= self.held) | (self.count == u64::MAX)
     }
 
     pub(crate) fn is_empty(self) -> bool
@@ -76,10 +44,7 @@ impl Ring {
     pub(crate) fn asks(self) -> u16
         ensures { result ≡ asks_bit self }
     {
-        if 4 <= self.coming {
-            return 1;
-        }
-        0
+        u16::from(4 <= self.coming)
     }
 
     // The place behind the last word held.
@@ -87,7 +52,7 @@ impl Ring {
         requires { Fit self }
         ensures { result ≡ behind self }
     {
-        around(self.depth(), self.place + self.held)
+        (self.place + self.held) % self.depth()
     }
 
     // One word more is held and counted, and one less is to come.
@@ -95,11 +60,9 @@ impl Ring {
         requires { Fit self × (is_full self ≡ false) }
         ensures { result ≡ ring_put self }
     {
-        self.held = self.held + 1;
-        self.count = self.count + 1;
-        if 0 < self.coming {
-            self.coming = self.coming - 1;
-        }
+        self.held += 1;
+        self.count += 1;
+        self.coming = self.coming.saturating_sub(1);
         self
     }
 
@@ -107,7 +70,7 @@ impl Ring {
     pub(crate) fn asked(mut self, words: u32) -> Ring
         ensures { result ≡ ring_asked self words }
     {
-        self.coming = up_to(self.depth(), self.coming, words);
+        self.coming = self.coming.saturating_add(words).min(self.depth());
         self
     }
 
@@ -115,10 +78,12 @@ impl Ring {
     fn asked_by(self, control: u32) -> u32
         ensures { result ≡ asked_by self control }
     {
-        if self.kind == 0 {
-            return words_if(self.place % 4 == control / 0x10 % 4, 4);
-        }
-        words_if((1 < self.kind) & (self.held == 1), 4)
+        let asks = match Kind::from(self.kind) {
+            Kind::Video => self.place % 4 == control / 0x10 % 4,
+            Kind::Cursor => false,
+            Kind::Sound => self.held == 1,
+        };
+        if asks { 4 } else { 0 }
     }
 
     // The word at the place is wholly read: its room is free again.
@@ -128,8 +93,8 @@ impl Ring {
     {
         let words = self.asked_by(control);
         self.taken = 0;
-        self.place = around(self.depth(), self.place + 1);
-        self.held = self.held - 1;
+        self.place = (self.place + 1) % self.depth();
+        self.held -= 1;
         self.asked(words)
     }
 
@@ -141,7 +106,7 @@ impl Ring {
         if self.taken == 3 {
             return self.word_done(control);
         }
-        self.taken = self.taken + 1;
+        self.taken += 1;
         self
     }
 }

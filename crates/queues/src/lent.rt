@@ -7,33 +7,25 @@ use crate::{Queue, Reply, Step};
 pub fn load(q: &mut Queue, word: u32) -> Reply
     ensures { (q.new ≡ (load_of q.old word).queue) × (result ≡ (load_of q.old word).reply) }
 {
-    let step = (*q).load(word);
-    *q = step.queue;
-    step.reply
+    thin(q, word, Queue::load)
 }
 
 pub fn read(q: &mut Queue, control: u32) -> Reply
     ensures { (q.new ≡ (read_of q.old control).queue) × (result ≡ (read_of q.old control).reply) }
 {
-    let step = (*q).read(control);
-    *q = step.queue;
-    step.reply
+    thin(q, control, Queue::read)
 }
 
 pub fn vertical_sync(q: &mut Queue, raster: u32) -> Reply
     ensures { (q.new ≡ (vertical_of q.old raster).queue) × (result ≡ (vertical_of q.old raster).reply) }
 {
-    let step = (*q).vertical_sync(raster);
-    *q = step.queue;
-    step.reply
+    thin(q, raster, Queue::vertical_sync)
 }
 
 pub fn ask(q: &mut Queue, words: u32) -> Reply
     ensures { (q.new ≡ (ask_of q.old words).queue) × (result ≡ (ask_of q.old words).reply) }
 {
-    let step = (*q).ask(words);
-    *q = step.queue;
-    step.reply
+    thin(q, words, Queue::ask)
 }
 
 // What the four have in common, of any step and whatever it means: the queue that the step leaves is stored, and its reply is answered.

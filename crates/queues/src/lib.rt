@@ -1,6 +1,8 @@
 // The chip's three queues: words go in singly and leave as bytes, low byte first, in the order they came.
 #![tactic(auto)]
 
+ghost use Rattle.queues.specs.Queue.{IsOfKind};
+
 mod counted;
 pub mod lent;
 mod steps;
@@ -10,7 +12,7 @@ pub mod syncs;
 #[repr(C)]
 #[derive(Clone, Copy)]
 pub struct Ring {
-    // 0 video, eight words deep; 1 cursor, four; any other number sound, four
+    // The number of a `Kind`, and no enum: C sets this field, and any number may stand in it.
     pub kind: u16,
     // bytes already read of the word being read
     pub taken: u16,
@@ -32,7 +34,7 @@ pub struct Queue {
     pub ring: Ring,
 }
 
-// What every call answers, of the queue as the call leaves it.
+// What every call answers, of the queue as the call leaves it. It crosses to C as it stands, so no `Result` can be here.
 #[repr(C)]
 #[derive(Clone, Copy)]
 pub struct Reply {
@@ -52,4 +54,27 @@ pub struct Reply {
 pub struct Step {
     pub queue: Queue,
     pub reply: Reply,
+}
+
+// Which of the three a queue is.
+#[derive(Clone, Copy)]
+enum Kind {
+    // number 0, eight words deep
+    Video,
+    // number 1, four
+    Cursor,
+    // any other number, four
+    Sound,
+}
+
+impl From<u16> for Kind {
+    ghost from_gives = { λ n kind. IsOfKind n kind };
+
+    fn from(n: u16) -> Kind {
+        match n {
+            0 => Kind::Video,
+            1 => Kind::Cursor,
+            _ => Kind::Sound,
+        }
+    }
 }

@@ -1,11 +1,10 @@
 // The steps by value. Each first replaces a record that is not fit by a fresh one of its kind, then does its work on that one.
 ghost use Rattle.std.specs.Prelude.{◌≡◌, ◌<◌};
-ghost use Rattle.queues.specs.Queue.{fresh_of, fitted_of, Fit, front_byte};
+ghost use Rattle.queues.specs.Queue.{first_coming, fresh_of, fitted_of, Fit, front_byte};
 ghost use Rattle.queues.specs.Steps.{step_of, load_fit, read_fit, load_of, read_of, emptied_of, vertical_of, ask_of, horizontal_of, ends_of};
 
-use crate::counted::words_if;
 use crate::syncs::{cursor_ask, video_ask};
-use crate::{Queue, Reply, Ring, Step};
+use crate::{Kind, Queue, Reply, Ring, Step};
 use refusals::Refusal;
 use registers::record::Registers;
 
@@ -16,35 +15,43 @@ fn answered(queue: Queue, number: u32, byte: u16) -> Step
     let ring = queue.ring;
     let reply = Reply {
         count: ring.count,
-        number: number,
-        byte: byte,
+        number,
+        byte,
         asks: ring.asks(),
     };
-    Step {
-        queue: queue,
-        reply: reply,
+    Step { queue, reply }
+}
+
+// Sound asks for four words when fresh.
+fn first_coming(kind: u16) -> u32
+    ensures { result ≡ first_coming kind }
+{
+    match Kind::from(kind) {
+        Kind::Sound => 4,
+        Kind::Video | Kind::Cursor => 0,
     }
 }
 
 impl Queue {
-    // A fresh queue counts as just emptied. Sound asks for four words when fresh.
+    // A fresh queue counts as just emptied.
     pub fn fresh(kind: u16) -> Queue
         ensures { result ≡ fresh_of kind }
     {
         let ring = Ring {
-            kind: kind,
+            kind,
             taken: 0,
             place: 0,
             held: 0,
-            coming: words_if(1 < kind, 4),
+            coming: first_coming(kind),
             count: 0,
         };
         Queue {
             words: [0; 8],
-            ring: ring,
+            ring,
         }
     }
 
+    #[tactic(auto, unfolding(crate::specs::Queue::fitted_of))]
     fn fitted(self) -> Queue
         ensures { result ≡ fitted_of self }
     {
@@ -55,6 +62,7 @@ impl Queue {
         Queue::fresh(ring.kind)
     }
 
+    #[tactic(auto, unfolding(crate::specs::Steps::load_fit))]
     fn load_fit(mut self, word: u32) -> Step
         requires { Fit self.ring }
         ensures { result ≡ load_fit self word }
@@ -63,15 +71,13 @@ impl Queue {
         if ring.is_full() {
             return answered(self, Refusal::Full.number(), 0);
         }
-        let at = ring.behind() as usize;
-        let mut words = self.words;
-        words[at] = word;
-        self.words = words;
+        self.words[ring.behind() as usize] = word;
         self.ring = ring.put();
         answered(self, 0, 0)
     }
 
     // One word behind those held: 16 where the queue is full, or its count at its largest.
+    #[tactic(auto, using(crate::proofs::Fits::fitted_fit), unfolding(crate::specs::Steps::load_of))]
     pub fn load(self, word: u32) -> Step
         ensures { result ≡ load_of self word }
     {
@@ -84,11 +90,11 @@ impl Queue {
         ensures { result ≡ front_byte self }
     {
         let ring = self.ring;
-        let words = self.words;
-        let word = words[ring.place as usize];
-        ((word >> (8 * (ring.taken as u32))) % 0x100) as u16
+        let word = self.words[ring.place as usize];
+        ((word >> (8 * u32::from(ring.taken))) % 0x100) as u16
     }
 
+    #[tactic(auto, unfolding(crate::specs::Steps::read_fit))]
     fn read_fit(mut self, control: u32) -> Step
         requires { Fit self.ring }
         ensures { result ≡ read_fit self control }
@@ -103,6 +109,7 @@ impl Queue {
     }
 
     // The next byte out: 17 where the queue is empty. Bits 5-4 of the control register's data say where more is asked for.
+    #[tactic(auto, using(crate::proofs::Fits::fitted_fit), unfolding(crate::specs::Steps::read_of))]
     pub fn read(self, control: u32) -> Step
         ensures { result ≡ read_of self control }
     {
@@ -113,14 +120,14 @@ impl Queue {
     fn emptied(self) -> Queue
         ensures { result ≡ emptied_of self }
     {
-        let kind = self.ring.kind;
-        if 1 < kind {
-            return self;
+        match Kind::from(self.ring.kind) {
+            Kind::Sound => self,
+            Kind::Video | Kind::Cursor => Queue::fresh(self.ring.kind),
         }
-        Queue::fresh(kind)
     }
 
     // Vertical sync starts with raster 0, and there empties all but sound; on other rasters it does nothing.
+    #[tactic(auto, unfolding(crate::specs::Steps::vertical_of))]
     pub fn vertical_sync(self, raster: u32) -> Step
         ensures { result ≡ vertical_of self raster }
     {
@@ -132,32 +139,34 @@ impl Queue {
     }
 
     // Words asked for are still to come, up to the depth.
+    #[tactic(auto, unfolding(crate::specs::Steps::ask_of))]
     pub fn ask(self, words: u32) -> Step
         ensures { result ≡ ask_of self words }
     {
         let mut queue = self.fitted();
-        let ring = queue.ring;
-        queue.ring = ring.asked(words);
+        queue.ring = queue.ring.asked(words);
         answered(queue, 0, 0)
     }
 
     // Horizontal sync of a raster: what it asks of this queue.
+    #[tactic(auto, unfolding(crate::specs::Steps::horizontal_of))]
     pub fn horizontal_sync(self, g: Registers, raster: u32) -> Step
         ensures { result ≡ horizontal_of self g raster }
     {
-        if self.ring.kind == 1 {
-            return self.ask(cursor_ask(g, raster));
+        match Kind::from(self.ring.kind) {
+            Kind::Cursor => self.ask(cursor_ask(g, raster)),
+            Kind::Video | Kind::Sound => self.ask(0),
         }
-        self.ask(0)
     }
 
     // The end of a raster's horizontal sync: what it asks of this queue.
+    #[tactic(auto, unfolding(crate::specs::Steps::ends_of))]
     pub fn sync_ends(self, g: Registers, raster: u32) -> Step
         ensures { result ≡ ends_of self g raster }
     {
-        if self.ring.kind == 0 {
-            return self.ask(video_ask(g, raster));
+        match Kind::from(self.ring.kind) {
+            Kind::Video => self.ask(video_ask(g, raster)),
+            Kind::Cursor | Kind::Sound => self.ask(0),
         }
-        self.ask(0)
     }
 }
