@@ -1,4 +1,3 @@
 pub mod Heads
-pub mod Signed
 pub mod Stored
 pub mod Unique

@@ -9,7 +9,7 @@ use buffers::put_words;
 fn rate_of(frequency: u8) -> u32
     ensures { result ≡ rate_of frequency }
 {
-    let period = frequency as u32 + 1;
+    let period = u32::from(frequency) + 1;
     (1_000_000 + period / 2) / period
 }
 

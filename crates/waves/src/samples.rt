@@ -2,29 +2,15 @@
 ghost use Rattle.std.specs.Prelude.{◌≡◌, ◌*◌, ◌≤◌, length};
 ghost use Rattle.std.proofs.lemmas.List.Edits.{sets};
 ghost use Rattle.buffers.specs.Put.{Put, text_in};
-ghost use Rattle.waves.specs.Samples.{sample_of, samples_of};
-
-// A sample's 16 bits: a negative value's two's complement.
-fn sample_of(value: i16) -> u16
-    ensures { result ≡ sample_of value }
-{
-    if value < 0 {
-        return (0x1_0000 + value as i32) as u16;
-    }
-    value as u16
-}
+ghost use Rattle.waves.specs.Samples.{samples_of};
 
 // Two bytes for each value, lowest first, from the first place on.
 fn put_samples(out: &mut [u8], values: &[i16])
     requires { 2 * length values.now ≤ length out.old }
     ensures { out.new ≡ sets out.old 0 (samples_of values.now) }
 {
-    let mut k = 0;
-    while k < values.len() {
-        let sample = sample_of(values[k]);
-        out[2 * k] = (sample % 256) as u8;
-        out[2 * k + 1] = (sample / 256) as u8;
-        k += 1;
+    for (k, value) in values.iter().enumerate() {
+        out[2 * k..2 * k + 2].copy_from_slice(&value.to_le_bytes());
     }
 }
 

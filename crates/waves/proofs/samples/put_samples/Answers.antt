@@ -1,37 +1,28 @@
 -- Two bytes a value, a value a turn: what is stored and what the rest will store make the whole.
 use mir.Syntax.{w16}
 use mir.Val.{SFits}
-use lib.IntN.{pos}
 use mir.Facts.{to_z-of_z}
-use borrow.Author.Rules.{rules}
-use Prim.Native.Nat.{◌*◌}
-use mathlib.Core.Path.{refl, sym, ◌∙◌, ap}
+use lib.IntN.{pos}
+use lib.ListN.{get_or}
+use mathlib.Core.List.{[], ◌∷◌}
+use mathlib.Core.Path.{sym, ◌∙◌}
 use native.Mathlib.Omega.{arith}
-use lib.ListN.{get_or, length-set}
-use Rattle.waves.specs.Samples.{sample_of}
-use Rattle.waves.proofs.Stored.{samples_turn, samples_done}
+use borrow.Author.Rules.{rules}
+use Rattle.buffers.proofs.Sets.{sets_range}
+use Rattle.waves.specs.Samples.{samples_of}
+use Rattle.waves.proofs.Stored.{bytes_of_value, length_samples, samples_turn, samples_done}
 use Rattle.waves.proofs.samples.put_samples.Goals as goal
-
-pub loop-k-init : goal.loop-k-init
-loop-k-init c = (omega arith, refl, refl)
-
-pub bounds-out-k-in-loop-k : goal.bounds-out-k-in-loop-k
-bounds-out-k-in-loop-k c = simp length-set (omega arith)
 
 pub loop-k-preserved : goal.loop-k-preserved
 loop-k-preserved c =
-    let args = c.args in
-    let loop = c.loop-k in
-    let l = loop in
-    let v = args.values.now in
-    let f : SFits w16 (get_or v l.k (pos 0)) = search rules in (
-      omega arith,
-      simp length-set l.invariant.1,
-      samples_turn l.out v l.k _ (omega arith) (c.sample_of-sample.ensures ∙ ap sample_of (to_z-of_z f)) ∙ l.invariant.2,
-    )
+    let l = c.loop-k in
+    let v = get_or c.args.values.now l.k (pos 0) in
+    let f : SFits w16 v = search rules in
+    let n = length_samples (v ∷ []) in
+    l.invariant
+    ∙ samples_turn l.out _ c.args.values.now l.k c.loop-k-test.true
+    (sets_range l.out (samples_of (v ∷ [])) _ _ (omega (arith, n)) (omega (arith, n))
+    (c.copy_from_slice.ensures.after ∙ c.to_le_bytes.ensures ∙ rw (to_z-of_z f) (bytes_of_value v f)))
 
 pub returns : goal.returns
-returns c =
-    let args = c.args in
-    let l = c.loop-k in
-    sym (samples_done l.out args.values.now (2 * l.k) l.k (omega arith)) ∙ l.invariant.2
+returns c = sym (c.loop-k.invariant ∙ samples_done c.loop-k.out c.args.values.now _ c.loop-k.k c.loop-k-test.false)
