@@ -1,23 +1,19 @@
 -- A picture judged: the setting's table and row 11 are one table, so that what is given is accepted and has the words it needs;
 -- and a table that goes on behind it is judged where the picture is given.
 use Prim.Native.Nat.{ℕ}
-use mathlib.Core.Bool.{true, false, not}
+use mathlib.Core.Bool.{false, not}
 use mathlib.Core.List.{List, [], ◌∷◌, ◌++◌}
 use mathlib.Core.Path.{◌≡◌, refl, sym, ◌∙◌, ap}
 use borrow.Author.Tests.{not-false, eqb-true, eq-eqb}
 use lib.Dec.{eqb}
 use lib.ListN.{length}
 use Rattle.buffers.proofs.Tests.{or_neither}
-use Rattle.refusals.specs.Table.{why, given, refused, Row, row, judged, and_then, Passes}
-use Rattle.refusals.specs.Refusals.{refusal}
-use Rattle.refusals.specs.declared.Refusal.{Refusal}
+use Rattle.refusals.specs.Table.{given, Row, row, judged, and_then, Passes}
 use Rattle.refusals.proofs.Tables.{passed, given_passes, judged_then, and_then_judged}
 use Rattle.registers.specs.Setting.{setting_of, video_words, cursor_words}
-use Rattle.registers.specs.Check.{check_told, check_says}
+use Rattle.registers.specs.Check.{check_told}
 use Rattle.registers.specs.declared.record.Registers.{Registers}
 use Rattle.registers.specs.declared.setting.Setting.{Setting}
-use Rattle.registers.specs.declared.check.Checked.{Checked}
-use Rattle.registers.specs.declared.check.Checked.TheVariants as checked
 use Rattle.registers.proofs.Told.{check_then, check_passes}
 use Rattle.registers.proofs.Accepted.{accepted}
 use Rattle.cells.specs.Picture.{words_wrong, picture_table, picture_told}
@@ -41,7 +37,7 @@ module _ (g : Registers) (video cursor : List ℕ) where
   picture_told_holds = refl
 
   -- First the setting, then 11.
-  picture_then : picture_told g video cursor ≡ and_then (check_told g) (λ s. judged (row 11 (words_wrong s video cursor) 0 ∷ []) s)
+  pub picture_then : picture_told g video cursor ≡ and_then (check_told g) (λ s. judged (row 11 (words_wrong s video cursor) 0 ∷ []) s)
   unfolding picture_told
   picture_then = check_then g (λ s. row 11 (words_wrong s video cursor) 0 ∷ []) (λ s. s)
 
@@ -54,17 +50,6 @@ module _ (g : Registers) (video cursor : List ℕ) where
   pub picture_for : {A : Type 0} (a : A) → judged (picture_table g video cursor) a ≡ and_then (picture_told g video cursor) (λ s. given a)
   unfolding picture_told
   picture_for a = judged_then (setting_of g) a (picture_table g video cursor)
-
-  -- What `judge` answers, from what the check tells.
-  module _ (x : Checked) (e : check_says x ≡ check_told g) where
-    pub judge_refused : (why : Refusal) → x ≡ checked.Refused why → refusal why ≡ picture_told g video cursor
-    judge_refused why q = rw (picture_then, ← e, q)
-
-    pub judge_wrong : (s : Setting) → x ≡ checked.Accepted s → words_wrong s video cursor ≡ true → refused (why 11 0) ≡ picture_told g video cursor
-    judge_wrong s q w = rw (picture_then, ← e, q, w)
-
-    pub judge_right : (s : Setting) → x ≡ checked.Accepted s → words_wrong s video cursor ≡ false → given s ≡ picture_told g video cursor
-    judge_right s q w = rw (picture_then, ← e, q, w)
 
   -- A picture that is given.
   module _ (s : Setting) (e : picture_told g video cursor ≡ given s) where

@@ -1,7 +1,7 @@
 -- For each public call, any two answers that its contract permits are the same: what they tell is fixed, and that fixes the answer.
 use mathlib.Core.Path.{sym, ◌∙◌}
 use Rattle.buffers.proofs.Coincide.{OneAnswer}
-use Rattle.registers.proofs.Told.{same_checked}
+use Rattle.refusals.proofs.Told.{same_told}
 use Rattle.cells.proofs.words_wrong.Kinds as words_wrong_kinds
 use Rattle.cells.proofs.words_wrong.Reads as words_wrong_reads
 use Rattle.cells.proofs.judge.Kinds as judge_kinds
@@ -11,4 +11,4 @@ pub one_words_wrong : OneAnswer 2 words_wrong_kinds.ps words_wrong_kinds.r words
 one_words_wrong κs a x y s t p q = p ∙ sym q
 
 pub one_judge : OneAnswer 2 judge_kinds.ps judge_kinds.r judge_reads.Post
-one_judge κs a x y s t p q = same_checked x y (p ∙ sym q)
+one_judge κs a x y s t p q = same_told x y (p ∙ sym q)

@@ -2,11 +2,10 @@
 #![tactic(auto)]
 
 ghost use Rattle.std.specs.Prelude.{◌≡◌};
-ghost use Rattle.registers.specs.Check.{check_says};
+ghost use Rattle.refusals.specs.Refusals.{says};
 ghost use Rattle.cells.specs.Picture.{words_wrong, picture_told};
 
-use refusals::Refusal;
-use registers::check::Checked;
+use refusals::{Refusal, refuse_if};
 use registers::record::Registers;
 use registers::setting::Setting;
 
@@ -18,18 +17,11 @@ pub fn words_wrong(s: Setting, video: &[u32], cursor: &[u32]) -> bool
 }
 
 // The setting of a record whose picture has the words it needs. Refusals: the setting's, 11.
-pub fn judge(g: Registers, video: &[u32], cursor: &[u32]) -> Checked
-    ensures { check_says result ≡ picture_told g video.now cursor.now }
+#[tactic(auto, using(refusals::proofs::Told::handed_on, registers::proofs::Accepting::accept_none, crate::proofs::Pictures::picture_then))]
+pub fn judge(mut g: Registers, video: &[u32], cursor: &[u32]) -> Result<Setting, Refusal>
+    ensures { says result ≡ picture_told g video.now cursor.now }
 {
-    let verdict = g.load_and_check(&[]);
-    let checked = verdict.checked;
-    match checked {
-        Checked::Refused(why) => Checked::Refused(why),
-        Checked::Accepted(s) => {
-            if words_wrong(s, video, cursor) {
-                return Checked::Refused(Refusal::WordCount);
-            }
-            Checked::Accepted(s)
-        }
-    }
+    let s = g.load_and_check(&[])?;
+    refuse_if(words_wrong(s, video, cursor), Refusal::WordCount)?;
+    Ok(s)
 }

@@ -1,17 +1,17 @@
 -- What an answer tells determines the answer: two answers that tell the same are the same. Each case is found again by its number.
 use Prim.Native.Nat.{ℕ}
 use mathlib.Core.Path.{◌≡◌, refl, sym, ◌∙◌, ap}
+use Rattle.std.specs.Prelude.{Result, Ok, Err, IsErrAnd}
+use Rattle.std.proofs.lemmas.Result.{err_from_is_err_and}
 use mathlib.Core.List.{List, [], ◌∷◌}
 use lib.Dec.{eqb}
 use Rattle.buffers.specs.Pick.{pick}
 use Rattle.refusals.specs.Table.{Why}
-use Rattle.refusals.specs.Refusals.{why_of, refusal, answer_says}
+use Rattle.refusals.specs.Refusals.{why_of, refusal, says}
 use Rattle.refusals.specs.declared.Refusal.{Refusal}
 use Rattle.refusals.specs.declared.Refusal.TheVariants.{TooManyWords, Reserved, Unwritten, TestMode, Interlace, Horizontal, Vertical, Width}
 use Rattle.refusals.specs.declared.Refusal.TheVariants.{Cursor, Sound, WordCount, Raster, Short, PlateFile, TooLarge, Full, Empty, WordIndex}
 use Rattle.refusals.specs.declared.Refusal.TheVariants.{SyncWidth, Camera}
-use Rattle.refusals.specs.declared.Answer.{Answer}
-use Rattle.refusals.specs.declared.Answer.TheVariants.{Done, Refused}
 use Rattle.refusals.proofs.Tables.{never}
 
 -- every case, with the detail d where it has one
@@ -53,8 +53,12 @@ back_told (Camera index) = refl
 pub same_refusal : {A : Type 0} (r q : Refusal) → refusal {A = A} r ≡ refusal q → r ≡ q
 same_refusal r q e = let w : why_of r ≡ why_of q = cc in sym (back_told r) ∙ (ap back w ∙ back_told q)
 
-pub same_answer : (x y : Answer) → answer_says x ≡ answer_says y → x ≡ y
-same_answer Done Done e = refl
-same_answer Done (Refused q) e = never e
-same_answer (Refused r) Done e = never (sym e)
-same_answer (Refused r) (Refused q) e = ap Refused (same_refusal r q e)
+pub same_told : {A : Type 0} (x y : Result A Refusal) → says x ≡ says y → x ≡ y
+same_told (Ok a) (Ok b) e = ap Ok (let q : a ≡ b = cc in q)
+same_told (Ok a) (Err q) e = never e
+same_told (Err r) (Ok b) e = never (sym e)
+same_told (Err r) (Err q) e = ap Err (same_refusal r q e)
+
+-- what a `?` hands on says the refusal that it was handed
+pub handed_on : {A : Type 0} (r : Result A Refusal) (q : Refusal) → IsErrAnd r (λ y. y ≡ q) → says r ≡ refusal q
+handed_on r q h = let p = err_from_is_err_and r h in rw (p.1, p.2) refl

@@ -1,11 +1,10 @@
 -- The paper's table: the number and the detail of each case of `Refusal`.
+use Rattle.std.specs.Prelude.{Result, Ok, Err}
 use Rattle.refusals.specs.Table.{Why, why, Told, given, refused}
 use Rattle.refusals.specs.declared.Refusal.{Refusal}
 use Rattle.refusals.specs.declared.Refusal.TheVariants.{TooManyWords, Reserved, Unwritten, TestMode, Interlace, Horizontal, Vertical, Width}
 use Rattle.refusals.specs.declared.Refusal.TheVariants.{Cursor, Sound, WordCount, Raster, Short, PlateFile, TooLarge, Full, Empty, WordIndex}
 use Rattle.refusals.specs.declared.Refusal.TheVariants.{SyncWidth, Camera}
-use Rattle.refusals.specs.declared.Answer.{Answer}
-use Rattle.refusals.specs.declared.Answer.TheVariants.{Done, Refused}
 
 abbrev pub why_of : Refusal → Why
 why_of TooManyWords = why 1 0
@@ -33,7 +32,7 @@ why_of (Camera index) = why 20 index
 abbrev pub refusal : {A : Type 0} → Refusal → Told A
 refusal r = refused (why_of r)
 
--- What an answer with nothing else to hand back tells.
-abbrev pub answer_says : Answer → Told (Unit {0})
-answer_says Done = given tt
-answer_says (Refused r) = refusal r
+-- What an answer tells: what was asked for, or the refusal.
+abbrev pub says : {A : Type 0} → Result A Refusal → Told A
+says (Ok a) = given a
+says (Err r) = refusal r

@@ -1,10 +1,11 @@
-// The table of refusals: a named case for each row, and the paper's number and detail of each.
+// The table of refusals: a named case for each row, and the paper's number and detail of each. A call that may be refused answers
+// `Result<_, Refusal>`.
 #![tactic(auto)]
 
-ghost use Rattle.std.specs.Prelude.{◌≡◌};
+ghost use Rattle.std.specs.Prelude.{◌≡◌, MatchResult, IsTrue, IsFalse};
 ghost use Rattle.refusals.specs.Refusals.{why_of};
 
-#[derive(Clone, Copy)]
+#[derive(Clone, Copy, Debug, PartialEq, Eq)]
 pub enum Refusal {
     // 1: more register words than a list may have
     TooManyWords,
@@ -48,35 +49,32 @@ pub enum Refusal {
     Camera(u32),
 }
 
-// The number and the detail of a row.
-#[derive(Clone, Copy)]
-struct Numbers(u32, u32);
-
 impl Refusal {
-    fn numbers(self) -> Numbers
+    // The number and the detail of its row.
+    fn numbers(self) -> (u32, u32)
         ensures { (result.0 ≡ (why_of self).number) × (result.1 ≡ (why_of self).detail) }
     {
         match self {
-            Refusal::TooManyWords => Numbers(1, 0),
-            Refusal::Reserved(index) => Numbers(2, index),
-            Refusal::Unwritten(address) => Numbers(3, address),
-            Refusal::TestMode => Numbers(4, 0),
-            Refusal::Interlace => Numbers(5, 0),
-            Refusal::Horizontal => Numbers(6, 0),
-            Refusal::Vertical => Numbers(7, 0),
-            Refusal::Width => Numbers(8, 0),
-            Refusal::Cursor => Numbers(9, 0),
-            Refusal::Sound(address) => Numbers(10, address),
-            Refusal::WordCount => Numbers(11, 0),
-            Refusal::Raster => Numbers(12, 0),
-            Refusal::Short => Numbers(13, 0),
-            Refusal::PlateFile => Numbers(14, 0),
-            Refusal::TooLarge => Numbers(15, 0),
-            Refusal::Full => Numbers(16, 0),
-            Refusal::Empty => Numbers(17, 0),
-            Refusal::WordIndex => Numbers(18, 0),
-            Refusal::SyncWidth => Numbers(19, 0),
-            Refusal::Camera(index) => Numbers(20, index),
+            Refusal::TooManyWords => (1, 0),
+            Refusal::Reserved(index) => (2, index),
+            Refusal::Unwritten(address) => (3, address),
+            Refusal::TestMode => (4, 0),
+            Refusal::Interlace => (5, 0),
+            Refusal::Horizontal => (6, 0),
+            Refusal::Vertical => (7, 0),
+            Refusal::Width => (8, 0),
+            Refusal::Cursor => (9, 0),
+            Refusal::Sound(address) => (10, address),
+            Refusal::WordCount => (11, 0),
+            Refusal::Raster => (12, 0),
+            Refusal::Short => (13, 0),
+            Refusal::PlateFile => (14, 0),
+            Refusal::TooLarge => (15, 0),
+            Refusal::Full => (16, 0),
+            Refusal::Empty => (17, 0),
+            Refusal::WordIndex => (18, 0),
+            Refusal::SyncWidth => (19, 0),
+            Refusal::Camera(index) => (20, index),
         }
     }
 
@@ -93,9 +91,12 @@ impl Refusal {
     }
 }
 
-// What a call that hands nothing else back answers.
-#[derive(Clone, Copy)]
-pub enum Answer {
-    Done,
-    Refused(Refusal),
+// A row of the table: the refusal, where the test holds.
+pub fn refuse_if(wrong: bool, why: Refusal) -> Result<(), Refusal>
+    ensures { MatchResult result (λ _. IsFalse wrong) (λ e. IsTrue wrong × (e ≡ why)) }
+{
+    if wrong {
+        return Err(why);
+    }
+    Ok(())
 }

@@ -1,15 +1,11 @@
 -- Load and check, by its two parts: what the load refuses is never checked, and what it passes is told as the check of the loaded record tells it.
 use Prim.Native.Nat.{ℕ, ◌≤◌}
-use mathlib.Core.Path.{◌≡◌, refl, sym, ◌∙◌, ap}
+use mathlib.Core.Path.{◌≡◌, refl, sym, ◌∙◌}
 use mathlib.Core.List.{List, [], ◌∷◌, ◌++◌}
 use mathlib.Core.Logic.{◌↔◌}
 use lib.ListN.{length}
 use native.Mathlib.Omega.{arith}
-use Rattle.refusals.specs.Table.{Told, given, refused, and_then, unless_refused}
-use Rattle.refusals.specs.Refusals.{refusal, answer_says}
-use Rattle.refusals.specs.declared.Refusal.{Refusal}
-use Rattle.refusals.specs.declared.Answer.{Answer}
-use Rattle.refusals.specs.declared.Answer.TheVariants.{Done, Refused}
+use Rattle.refusals.specs.Table.{Told, given, refused, and_then}
 use Rattle.refusals.proofs.Tables.{never, and_then_judged}
 use Rattle.registers.specs.Load.{applied, load_table, load_told, leading}
 use Rattle.registers.specs.Setting.{setting_of}
@@ -19,6 +15,8 @@ use Rattle.registers.specs.Accept.{accept_told, accept_sound_told, handed_back}
 use Rattle.registers.specs.Rules.{Loadable, EveryRule}
 use Rattle.registers.specs.declared.record.Registers.{Registers}
 use Rattle.registers.specs.declared.setting.Setting.{Setting}
+use Rattle.registers.specs.inner.Accepted.{Accepted}
+use Rattle.registers.proofs.Accepted.{accepted}
 use Rattle.registers.proofs.Exactly.{exactly}
 use Rattle.registers.proofs.Halves.{loads_exactly, load_halves, halves_load, applied_halves}
 
@@ -36,17 +34,16 @@ pub accept_none : (g : Registers) → accept_told g [] ≡ check_told g
 unfolding accept_told check_told applied leading
 accept_none g = refl
 
--- A list of no words is that list, and the record is then handed back as it was given either way.
-module _ (g : Registers) where
-  handed_none : {A : Type 0} (told : Told A) → g ≡ handed_back told g []
-  unfolding applied
-  handed_none (given a) = refl
-  handed_none (refused w) = refl
+pub checked_as_it_stands : (g : Registers) (words : List ℕ) → length words ≡ 0 → accept_told g words ≡ check_told g
+checked_as_it_stands g [] n = accept_none g
+checked_as_it_stands g (w ∷ ws) n = absurd (omega arith)
 
-  pub stands : (words : List ℕ) → length words ≡ 0 → (t : Told Setting) → t ≡ check_told g
-      → (t ≡ accept_told g words) × (g ≡ handed_back (accept_told g words) g words)
-  stands [] n t e = (e ∙ sym (accept_none g), handed_none (accept_told g []))
-  stands (w ∷ ws) n t e = absurd (omega arith)
+-- and handed back as it was given either way.
+pub handed_as_it_stands : {A : Type 0} (told : Told A) (g : Registers) (words : List ℕ) → length words ≡ 0 → handed_back told g words ≡ g
+unfolding applied
+handed_as_it_stands (given a) g [] n = refl
+handed_as_it_stands (refused w) g [] n = refl
+handed_as_it_stands told g (w ∷ ws) n = absurd (omega arith)
 
 -- Accepted: the list can be loaded, and the record that it leaves is.
 module _ (g : Registers) (words : List ℕ) (s : Setting) where
@@ -59,6 +56,10 @@ module _ (g : Registers) (words : List ℕ) (s : Setting) where
 
   pub both_accepted : load_told words ≡ given tt → check_told (applied g words) ≡ given s → accept_told g words ≡ given s
   both_accepted e h = accept_then g words ∙ rw e h
+
+-- What is given has what an accepted setting has.
+pub given_accepted : (g : Registers) (words : List ℕ) (s : Setting) → given s ≡ accept_told g words → Accepted s
+given_accepted g words s e = accepted (applied g words) s (accepted_both g words s (sym e)).1
 
 pub accepted_sound : (g : Registers) (words : List ℕ) → accept_sound_told g words ≡ given tt → sound_told (applied g words) ≡ given tt
 accepted_sound g words e = go (load_told words) (sym (accept_sound_then g words) ∙ e)
@@ -86,15 +87,3 @@ module _ (g : Registers) (xs ys : List ℕ) (s : Setting) where
   accept_whole few first e =
       let p = accepted_both (applied g xs) ys s e in
       both_accepted g (xs ++ ys) s (halves_load xs ys few first p.0) (rw (applied_halves g xs ys) p.1)
-
--- The record handed back, by what is told of the list and of the record that it leaves: as it was given on a refusal, else with the words applied.
-module _ {A : Type 0} (g : Registers) (words : List ℕ) (told : Told A) (next : Registers → Told A)
-    (follows : told ≡ and_then (load_told words) (λ _. next (applied g words))) (x : Answer) (answers : answer_says x ≡ load_told words) where
-  pub unloaded : (w : Refusal) → x ≡ Refused w → (refusal w ≡ told) × (g ≡ handed_back told g words)
-  unloaded w q = let e : told ≡ refusal w = follows ∙ rw (← answers, q) in (sym e, rw e)
-
-  pub loaded : x ≡ Done → (r : Registers) → r ≡ applied g words → (t : Told A) → t ≡ next r
-      → (t ≡ told) × (unless_refused t g r ≡ handed_back told g words)
-  loaded q r left t n =
-      let e : t ≡ told = n ∙ ap next left ∙ sym (follows ∙ rw (← answers, q)) in
-      (e, rw (e, left))

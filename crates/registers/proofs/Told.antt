@@ -1,16 +1,13 @@
--- What each call tells is its table judged, as it is defined; and what a check's answer tells determines the answer.
-use mathlib.Core.Path.{◌≡◌, refl, sym, ap}
+-- What each call tells is its table judged, as it is defined.
+use mathlib.Core.Path.{◌≡◌, refl, sym}
 use mathlib.Core.List.{List, ◌++◌}
 use Rattle.refusals.specs.Table.{given, Row, judged, and_then, Passes}
-use Rattle.refusals.proofs.Tables.{never, passes_first, passes_given, and_then_judged}
-use Rattle.refusals.proofs.Told.{same_refusal}
+use Rattle.refusals.proofs.Tables.{passes_first, passes_given, and_then_judged}
 use Rattle.registers.specs.Setting.{setting_of}
-use Rattle.registers.specs.Check.{check_says, setting_table, check_told}
+use Rattle.registers.specs.Check.{setting_table, check_told}
 use Rattle.registers.specs.Sound.{sound_table, sound_told}
 use Rattle.registers.specs.declared.record.Registers.{Registers}
 use Rattle.registers.specs.declared.setting.Setting.{Setting}
-use Rattle.registers.specs.declared.check.Checked.{Checked}
-use Rattle.registers.specs.declared.check.Checked.TheVariants.{Accepted, Refused}
 
 module _ (g : Registers) where
   pub check_told_holds : check_told g ≡ judged (setting_table g) (setting_of g)
@@ -30,10 +27,3 @@ module _ (g : Registers) where
   pub sound_told_holds : sound_told g ≡ judged (sound_table g) tt
   unfolding sound_told
   sound_told_holds = refl
-
--- two answers that tell the same are the same
-pub same_checked : (x y : Checked) → check_says x ≡ check_says y → x ≡ y
-same_checked (Accepted s) (Accepted t) e = ap Accepted (let q : s ≡ t = cc in q)
-same_checked (Accepted s) (Refused q) e = never e
-same_checked (Refused r) (Accepted t) e = never (sym e)
-same_checked (Refused r) (Refused q) e = ap Refused (same_refusal r q e)

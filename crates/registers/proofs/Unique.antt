@@ -1,10 +1,8 @@
--- For each public call, any two answers that its contract permits are the same: each contract is an equation of the answer, or of what it tells.
-use mathlib.Core.Path.{◌≡◌, sym, ◌∙◌}
-use Rattle.buffers.proofs.Coincide.{OneAnswer}
-use Rattle.registers.specs.declared.record.Loaded.{Loaded}
-use Rattle.registers.specs.declared.accept.Verdict.{Verdict}
-use Rattle.refusals.proofs.Told.{same_answer}
-use Rattle.registers.proofs.Told.{same_checked}
+-- For each public call, any two answers that its contract permits are the same, and any two records that it leaves where one was lent: each contract is
+-- an equation of the answer, or of what it tells.
+use mathlib.Core.Path.{sym, ◌∙◌}
+use Rattle.buffers.proofs.Coincide.{OneAnswer, OneState}
+use Rattle.refusals.proofs.Told.{same_told}
 use Rattle.registers.proofs.units.Pairs.pixels.Kinds as pixels_kinds
 use Rattle.registers.proofs.units.Pairs.pixels.Reads as pixels_reads
 use Rattle.registers.proofs.units.Pixels.width_from.Kinds as width_from_kinds
@@ -61,12 +59,6 @@ use Rattle.registers.proofs.record.Registers.load_and_check_sound.Kinds as load_
 use Rattle.registers.proofs.record.Registers.load_and_check_sound.Reads as load_and_check_sound_reads
 use Rattle.registers.proofs.record.Registers.check_sound.Kinds as check_sound_kinds
 use Rattle.registers.proofs.record.Registers.check_sound.Reads as check_sound_reads
-
-same_loaded : (x y : Loaded) → x.answer ≡ y.answer → x.registers ≡ y.registers → x ≡ y
-same_loaded x y a r = λ i. record { registers = r i; answer = a i }
-
-same_verdict : (x y : Verdict) → x.checked ≡ y.checked → x.registers ≡ y.registers → x ≡ y
-same_verdict x y c r = λ i. record { registers = r i; checked = c i }
 
 pub one_pixels : OneAnswer 0 pixels_kinds.ps pixels_kinds.r pixels_reads.Post
 one_pixels κs a x y s t p q = p ∙ sym q
@@ -140,14 +132,14 @@ one_stereo κs a x y s t p q = p ∙ sym q
 pub one_sound_frequency : OneAnswer 0 sound_frequency_kinds.ps sound_frequency_kinds.r sound_frequency_reads.Post
 one_sound_frequency κs a x y s t p q = p ∙ sym q
 
-pub one_load_word : OneAnswer 0 load_word_kinds.ps load_word_kinds.r load_word_reads.Post
-one_load_word κs a x y s t p q = same_loaded x y (same_answer x.answer y.answer (p.0 ∙ sym q.0)) (p.1 ∙ sym q.1)
+pub one_load_word : OneState 1 load_word_kinds.ps load_word_kinds.r (λ κs s. s.0.now) load_word_reads.Post
+one_load_word κs a x y s t p q = (same_told x y (p.0 ∙ sym q.0), p.1 ∙ sym q.1)
 
-pub one_load_and_check : OneAnswer 1 load_and_check_kinds.ps load_and_check_kinds.r load_and_check_reads.Post
-one_load_and_check κs a x y s t p q = same_verdict x y (same_checked x.checked y.checked (p.0 ∙ sym q.0)) (p.1 ∙ sym q.1)
+pub one_load_and_check : OneState 2 load_and_check_kinds.ps load_and_check_kinds.r (λ κs s. s.0.now) load_and_check_reads.Post
+one_load_and_check κs a x y s t p q = (same_told x y (p.0 ∙ sym q.0), p.1 ∙ sym q.1)
 
-pub one_load_and_check_sound : OneAnswer 1 load_and_check_sound_kinds.ps load_and_check_sound_kinds.r load_and_check_sound_reads.Post
-one_load_and_check_sound κs a x y s t p q = same_loaded x y (same_answer x.answer y.answer (p.0 ∙ sym q.0)) (p.1 ∙ sym q.1)
+pub one_load_and_check_sound : OneState 2 load_and_check_sound_kinds.ps load_and_check_sound_kinds.r (λ κs s. s.0.now) load_and_check_sound_reads.Post
+one_load_and_check_sound κs a x y s t p q = (same_told x y (p.0 ∙ sym q.0), p.1 ∙ sym q.1)
 
 pub one_check_sound : OneAnswer 0 check_sound_kinds.ps check_sound_kinds.r check_sound_reads.Post
-one_check_sound κs a x y s t p q = same_answer x y (p ∙ sym q)
+one_check_sound κs a x y s t p q = same_told x y (p ∙ sym q)

@@ -1,7 +1,6 @@
 -- The setting's rules, 3 to 9 of the table with 19 behind 6, in the paper's words and order.
 use Rattle.std.specs.Prelude.{ℕ, ◌*◌, ◌-◌, ◌%◌, Bool, ◌&&◌, ◌||◌, not, List, [], ◌∷◌, ltb, leb, eqb}
-use Rattle.refusals.specs.Table.{Told, given, Row, row, judged}
-use Rattle.refusals.specs.Refusals.{refusal}
+use Rattle.refusals.specs.Table.{Told, Row, row, judged}
 use Rattle.registers.specs.Control.{pixel_rate, test_mode, interlaced}
 use Rattle.registers.specs.Geometry.{sub_position}
 use Rattle.registers.specs.Setting.{setting_of, display_on, border_on}
@@ -9,8 +8,6 @@ use Rattle.registers.specs.Lowest.{lowest, fault_at}
 use Rattle.registers.specs.declared.record.Registers.{Registers}
 use Rattle.registers.specs.declared.setting.Setting.{Setting}
 use Rattle.registers.specs.declared.lowest.Fault.TheVariants.{Unwritten}
-use Rattle.registers.specs.declared.check.Checked.{Checked}
-use Rattle.registers.specs.declared.check.Checked.TheVariants.{Accepted, Refused}
 
 -- HS ≤ BS ≤ DS < DE ≤ BE ≤ N.
 abbrev pub horizontal_rule : Setting → Bool
@@ -63,8 +60,3 @@ setting_table g =
 
 unfoldable pub check_told : Registers → Told Setting
 check_told g = judged (setting_table g) (setting_of g)
-
--- What an answer of `check` tells.
-abbrev pub check_says : Checked → Told Setting
-check_says (Accepted s) = given s
-check_says (Refused r) = refusal r

@@ -1,11 +1,8 @@
 // Judging a setting: refusals 3 to 9 in ascending order with 19 behind 6, or the accepted setting. Outside this crate a record is checked by
 // `load_and_check` alone.
 ghost use Rattle.std.specs.Prelude.{◌≡◌, ◌*◌, ◌%◌};
-ghost use Rattle.buffers.specs.Pick.{pick};
-ghost use Rattle.refusals.specs.Table.{judged};
-ghost use Rattle.refusals.specs.Refusals.{refusal, answer_says};
+ghost use Rattle.refusals.specs.Refusals.{says};
 ghost use Rattle.registers.specs.Check.{
-  check_says,
   horizontal_rule,
   sync_rule,
   display_rule,
@@ -13,32 +10,14 @@ ghost use Rattle.registers.specs.Check.{
   vertical_rule,
   width_rule,
   cursor_rule,
-  setting_table,
   check_told,
 };
-ghost use Rattle.registers.specs.Setting.{setting_of};
 
 use crate::lowest::{Fault, lowest};
 use crate::record::Registers;
 use crate::setting::Setting;
 use crate::units::Pixels;
-use refusals::{Answer, Refusal};
-
-#[derive(Clone, Copy)]
-pub enum Checked {
-    Accepted(Setting),
-    Refused(Refusal),
-}
-
-// A refusal where the test holds, else what the rows after it answer.
-fn refused_if(wrong: bool, why: Refusal, rest: Answer) -> Answer
-    ensures { answer_says result ≡ pick wrong (refusal why) (answer_says rest) }
-{
-    if wrong {
-        return Answer::Refused(why);
-    }
-    rest
-}
+use refusals::{Refusal, refuse_if};
 
 // The bits by which a raster of some width passes whole words.
 fn odd_bits(width: Pixels, bits: u8) -> u32
@@ -107,32 +86,21 @@ impl Registers {
         !s.cursor | ((self.sub_position() == 0) & (s.vce.0 <= s.v.0))
     }
 
-    // The first refusal of 3 to 6, 19, 7 to 9, for the record and its setting. The rows are joined from the last to the first.
-    fn judge(self, s: Setting) -> Answer
-        requires { s ≡ setting_of self }
-        ensures { answer_says result ≡ judged (setting_table self) tt }
-    {
-        let low = lowest(self, Fault::Unwritten);
-        let address = 4 * low as u32;
-        let end = Answer::Done;
-        let end = refused_if(!self.is_cursor_right(s), Refusal::Cursor, end);
-        let end = refused_if(!s.is_width_right(), Refusal::Width, end);
-        let end = refused_if(!s.is_vertical_right(), Refusal::Vertical, end);
-        let end = refused_if(!self.is_sync_right(s), Refusal::SyncWidth, end);
-        let end = refused_if(!s.is_horizontal_right(), Refusal::Horizontal, end);
-        let end = refused_if(self.is_interlaced(), Refusal::Interlace, end);
-        let end = refused_if(self.is_test_mode(), Refusal::TestMode, end);
-        refused_if(low < Self::SLOTS, Refusal::Unwritten(address), end)
-    }
-
     // The accepted setting, or the first refusal of 3 to 6, 19, 7 to 9.
-    pub(crate) fn check(self) -> Checked
-        ensures { check_says result ≡ check_told self }
+    #[tactic(auto, using(refusals::proofs::Told::handed_on), unfolding(crate::specs::Check::check_told))]
+    pub(crate) fn check(self) -> Result<Setting, Refusal>
+        ensures { says result ≡ check_told self }
     {
         let s = self.setting();
-        match self.judge(s) {
-            Answer::Done => Checked::Accepted(s),
-            Answer::Refused(why) => Checked::Refused(why),
-        }
+        let low = lowest(self, Fault::Unwritten);
+        refuse_if(low < Self::SLOTS, Refusal::Unwritten(4 * low as u32))?;
+        refuse_if(self.is_test_mode(), Refusal::TestMode)?;
+        refuse_if(self.is_interlaced(), Refusal::Interlace)?;
+        refuse_if(!s.is_horizontal_right(), Refusal::Horizontal)?;
+        refuse_if(!self.is_sync_right(s), Refusal::SyncWidth)?;
+        refuse_if(!s.is_vertical_right(), Refusal::Vertical)?;
+        refuse_if(!s.is_width_right(), Refusal::Width)?;
+        refuse_if(!self.is_cursor_right(s), Refusal::Cursor)?;
+        Ok(s)
     }
 }

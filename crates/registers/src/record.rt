@@ -1,22 +1,15 @@
 // The register record: for each slot (an address / 4) the data last stored there, and whether any was.
 ghost use Rattle.std.specs.Prelude.{◌≡◌};
 ghost use Rattle.refusals.specs.Table.{unless_refused};
-ghost use Rattle.refusals.specs.Refusals.{answer_says};
+ghost use Rattle.refusals.specs.Refusals.{says};
 ghost use Rattle.registers.specs.Record.{registers_by, fresh, stored_of, word_told, reserved};
 
-use refusals::{Answer, Refusal};
+use refusals::{Refusal, refuse_if};
 
 #[derive(Clone, Copy)]
 pub struct Registers {
     pub values: [u32; 64],
     pub written: [bool; 64],
-}
-
-// A record beside the answer of the call that made it: as it came, where the answer is a refusal.
-#[derive(Clone, Copy)]
-pub struct Loaded {
-    pub registers: Registers,
-    pub answer: Answer,
 }
 
 // Whether no register has the address 4 · slot: those between the cursor's palette and the stereo registers, between the sound frequency
@@ -61,19 +54,14 @@ impl Registers {
         self
     }
 
-    // One word loaded alone: refusal 2 with detail 0 for a reserved address.
-    pub fn load_word(self, word: u32) -> Loaded
-        ensures { (answer_says result.answer ≡ word_told word) × (result.registers ≡ unless_refused (word_told word) self (stored_of self word)) }
+    // One word loaded alone: refusal 2 with detail 0 for a reserved address, and the record stays as it was.
+    #[tactic(auto, using(refusals::proofs::Told::handed_on), unfolding(crate::specs::Record::stored_of))]
+    pub fn load_word(&mut self, word: u32) -> Result<(), Refusal>
+        ensures told { says result ≡ word_told word }
+        ensures left { self.new ≡ unless_refused (word_told word) self.old (stored_of self.old word) }
     {
-        if is_reserved(word / 0x400_0000) {
-            return Loaded {
-                registers: self,
-                answer: Answer::Refused(Refusal::Reserved(0)),
-            };
-        }
-        Loaded {
-            registers: self.store(word),
-            answer: Answer::Done,
-        }
+        refuse_if(is_reserved(word / 0x400_0000), Refusal::Reserved(0))?;
+        *self = self.store(word);
+        Ok(())
     }
 }

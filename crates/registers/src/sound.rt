@@ -1,25 +1,25 @@
 // What sound asks of a record: C0H and all stereo registers, 3 then 10.
 ghost use Rattle.std.specs.Prelude.{◌≡◌};
-ghost use Rattle.refusals.specs.Refusals.{answer_says};
+ghost use Rattle.refusals.specs.Refusals.{says};
 ghost use Rattle.registers.specs.Sound.{sound_told};
 
 use crate::lowest::{Fault, lowest};
 use crate::record::Registers;
-use refusals::{Answer, Refusal};
+use refusals::{Refusal, refuse_if};
 
 impl Registers {
     // Whether sound may be played: 3 or 10 with the lowest address, else done.
-    pub fn check_sound(self) -> Answer
-        ensures { answer_says result ≡ sound_told self }
+    #[tactic(auto, using(refusals::proofs::Told::handed_on), unfolding(crate::specs::Sound::sound_told))]
+    pub fn check_sound(self) -> Result<(), Refusal>
+        ensures { says result ≡ sound_told self }
     {
         let unwritten = lowest(self, Fault::SoundUnwritten);
-        if unwritten < Self::SLOTS {
-            return Answer::Refused(Refusal::Unwritten(4 * unwritten as u32));
-        }
+        refuse_if(
+            unwritten < Self::SLOTS,
+            Refusal::Unwritten(4 * unwritten as u32),
+        )?;
         let wrong = lowest(self, Fault::SoundWrong);
-        if wrong < Self::SLOTS {
-            return Answer::Refused(Refusal::Sound(4 * wrong as u32));
-        }
-        Answer::Done
+        refuse_if(wrong < Self::SLOTS, Refusal::Sound(4 * wrong as u32))?;
+        Ok(())
     }
 }

@@ -3,7 +3,6 @@ use Rattle.std.specs.Prelude.{ℕ, ◌+◌, ◌*◌, ◌≡◌, Bool, ◌&&◌, 
 use Rattle.std.specs.Borrow.{Bor}
 use Rattle.buffers.specs.Pick.{pick}
 use Rattle.refusals.specs.Table.{Told, given, refused, Row, row, judged, and_then}
-use Rattle.refusals.specs.Refusals.{refusal}
 use Rattle.registers.specs.Setting.{setting_of, display_on, raster_words}
 use Rattle.registers.specs.Check.{setting_table}
 use Rattle.registers.specs.declared.record.Registers.{Registers}
@@ -12,8 +11,6 @@ use Rattle.cells.specs.Cell.{within}
 use Rattle.cells.specs.Pixel.{first_word}
 use Rattle.cells.specs.Picture.{video_wrong}
 use Rattle.stretch.specs.declared.found.Stretch.{Stretch}
-use Rattle.stretch.specs.declared.found.Found.{Found}
-use Rattle.stretch.specs.declared.found.Found.TheVariants.{At, Refused}
 
 -- Raster y is displayed: the display is on, and y is in it.
 abbrev pub is_displayed : Setting → ℕ → Bool
@@ -38,10 +35,6 @@ stretch_table g video y = setting_table g ++ raster_rows (setting_of g) video y
 
 unfoldable pub stretch_told : Registers → List ℕ → ℕ → Told Stretch
 stretch_told g video y = judged (stretch_table g video y) (stretch_of (setting_of g) y)
-
-abbrev pub found_says : Found → Told Stretch
-found_says (At p) = given p
-found_says (Refused why) = refusal why
 
 -- The stretch itself, empty where the call is refused.
 abbrev pub words_told : List ℕ → Told Stretch → List ℕ

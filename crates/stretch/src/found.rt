@@ -1,11 +1,10 @@
 // Where a raster's words stand in the caller's list.
 ghost use Rattle.std.specs.Prelude.{◌≡◌};
-ghost use Rattle.refusals.specs.Table.{judged};
+ghost use Rattle.refusals.specs.Refusals.{says};
 ghost use Rattle.registers.specs.inner.Accepted.{Accepted};
-ghost use Rattle.stretch.specs.Stretch.{raster_rows, stretch_of, stretch_told, found_says};
+ghost use Rattle.stretch.specs.Stretch.{stretch_of, stretch_told};
 
-use refusals::Refusal;
-use registers::check::Checked;
+use refusals::{Refusal, refuse_if};
 use registers::record::Registers;
 use registers::setting::Setting;
 use registers::units::Rasters;
@@ -14,12 +13,6 @@ use registers::units::Rasters;
 pub struct Stretch {
     pub start: usize,
     pub count: usize,
-}
-
-#[derive(Clone, Copy)]
-pub enum Found {
-    At(Stretch),
-    Refused(Refusal),
 }
 
 // Each displayed raster has w words, from the last one's end on.
@@ -40,27 +33,13 @@ fn stretch_of(s: Setting, y: Rasters) -> Stretch
     }
 }
 
-// 11 for the video count alone, 12, or the stretch.
-fn judge(s: Setting, video: &[u32], y: Rasters) -> Found
-    requires { Accepted s }
-    ensures { found_says result ≡ judged (raster_rows s video.now y.0) (stretch_of s y.0) }
+// The stretch of a raster. Refusals: the setting's, 11 for the video count alone, 12.
+#[tactic(auto, using(refusals::proofs::Told::handed_on, registers::proofs::Accepting::accept_none, crate::proofs::Answers::stretch_then))]
+pub fn find(mut g: Registers, video: &[u32], y: Rasters) -> Result<Stretch, Refusal>
+    ensures { says result ≡ stretch_told g video.now y.0 }
 {
-    if video.len() as u64 != s.video_words() {
-        return Found::Refused(Refusal::WordCount);
-    }
-    if s.v.0 <= y.0 {
-        return Found::Refused(Refusal::Raster);
-    }
-    Found::At(stretch_of(s, y))
-}
-
-pub fn find(g: Registers, video: &[u32], y: Rasters) -> Found
-    ensures { found_says result ≡ stretch_told g video.now y.0 }
-{
-    let verdict = g.load_and_check(&[]);
-    let checked = verdict.checked;
-    match checked {
-        Checked::Refused(why) => Found::Refused(why),
-        Checked::Accepted(s) => judge(s, video, y),
-    }
+    let s = g.load_and_check(&[])?;
+    refuse_if(video.len() as u64 != s.video_words(), Refusal::WordCount)?;
+    refuse_if(s.v.0 <= y.0, Refusal::Raster)?;
+    Ok(stretch_of(s, y))
 }

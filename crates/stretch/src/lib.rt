@@ -4,11 +4,11 @@
 pub mod found;
 
 ghost use Rattle.std.specs.Prelude.{◌≡◌};
-ghost use Rattle.refusals.specs.Refusals.{answer_says};
+ghost use Rattle.refusals.specs.Refusals.{says};
 ghost use Rattle.stretch.specs.Stretch.{stretch_told, PartOf, answer_told};
 
-use crate::found::{Found, find};
-use refusals::Answer;
+use crate::found::find;
+use refusals::Refusal;
 use registers::record::Registers;
 use registers::units::Rasters;
 
@@ -17,8 +17,8 @@ pub fn raster_words(g: Registers, video: &[u32], y: Rasters) -> &[u32]
     ensures { PartOf video.entry result (stretch_told g video.now y.0) }
 {
     match find(g, video, y) {
-        Found::Refused(_) => &video[0..0],
-        Found::At(stretch) => {
+        Err(_) => &video[0..0],
+        Ok(stretch) => {
             let start = stretch.start;
             let end = start + stretch.count;
             &video[start..end]
@@ -27,11 +27,10 @@ pub fn raster_words(g: Registers, video: &[u32], y: Rasters) -> &[u32]
 }
 
 // The refusal of the call above on the same inputs, or none.
-pub fn raster_words_answer(g: Registers, video: &[u32], y: Rasters) -> Answer
-    ensures { answer_says result ≡ answer_told (stretch_told g video.now y.0) }
+#[tactic(auto, using(refusals::proofs::Told::handed_on))]
+pub fn raster_words_answer(g: Registers, video: &[u32], y: Rasters) -> Result<(), Refusal>
+    ensures { says result ≡ answer_told (stretch_told g video.now y.0) }
 {
-    match find(g, video, y) {
-        Found::Refused(why) => Answer::Refused(why),
-        Found::At(_) => Answer::Done,
-    }
+    find(g, video, y)?;
+    Ok(())
 }

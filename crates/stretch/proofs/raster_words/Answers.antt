@@ -5,23 +5,16 @@ use native.Mathlib.Omega.{arith}
 use Rattle.stretch.proofs.raster_words.Goals as goal
 
 pub overflow_add-end : goal.overflow_add-end
-overflow_add-end c =
-    let found = c.find.ensures in
-    omega (arith, words_room c.args.g c.args.video.now c.args.y.0 _ found c.in-At.is)
+overflow_add-end c = omega (arith, words_room _ _ _ c.in-Ok.ensures)
 
 pub offset_bounds-video-start : goal.offset_bounds-video-start
-offset_bounds-video-start c =
-    let found = c.find.ensures in
-    omega (arith, words_room c.args.g c.args.video.now c.args.y.0 _ found c.in-At.is)
+offset_bounds-video-start c = omega (arith, words_room _ _ _ c.in-Ok.ensures)
 
-pub slice_bounds-result-end-in-At : goal.slice_bounds-result-end-in-At
-slice_bounds-result-end-in-At c =
-    let found = c.find.ensures in
-    words_room c.args.g c.args.video.now c.args.y.0 _ found c.in-At.is
+pub slice_bounds-result-end-in-Ok : goal.slice_bounds-result-end-in-Ok
+slice_bounds-result-end-in-Ok c = words_room _ _ _ c.in-Ok.ensures
 
-pub returns-in-Refused : goal.returns-in-Refused
-returns-in-Refused c = returned_none _ _ _ _ _ c.find.ensures refl c.in-Refused.is refl (omega arith)
+pub returns-in-Err : goal.returns-in-Err
+returns-in-Err c = returned_none _ _ _ _ refl _ c.in-Err.ensures refl (omega arith)
 
-pub returns-in-At : goal.returns-in-At
-returns-in-At c =
-    returned_stretch _ _ _ _ _ c.find.ensures refl c.in-At.is refl (omega arith)
+pub returns-in-Ok : goal.returns-in-Ok
+returns-in-Ok c = returned_stretch _ _ _ _ refl c.in-Ok.ensures refl (omega arith)

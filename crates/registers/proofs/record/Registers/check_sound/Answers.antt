@@ -1,22 +1,18 @@
--- Sound is refused for the lowest unwritten slot, then for the lowest wrong one. Each return is one row of its table.
-use Rattle.registers.specs.Sound.{sound_told}
-use borrow.Author.Tests.{le-ltb, lt-ltb}
+-- An address of a slot, and 64 for none, is small.
+use native.Mathlib.Omega.{arith}
+use Rattle.registers.specs.Lowest.{fault_at}
+use Rattle.registers.specs.declared.lowest.Fault.TheVariants.{SoundUnwritten, SoundWrong}
+use Rattle.registers.proofs.First.{lowest_most}
 use Rattle.registers.proofs.record.Registers.check_sound.Goals as goal
 
-pub returns-then-unwritten-lt-SLOTS : goal.returns-then-unwritten-lt-SLOTS
-unfolding sound_told
-returns-then-unwritten-lt-SLOTS c = simp (← c.lowest-unwritten.ensures, lt-ltb _ _ c.if-unwritten-lt-SLOTS.true)
+pub overflow_cast-unwritten : goal.overflow_cast-unwritten
+overflow_cast-unwritten c = omega (arith, c.lowest-unwritten.ensures, lowest_most (fault_at c.args.self SoundUnwritten) 64 0)
 
-pub returns-then-wrong-lt-SLOTS : goal.returns-then-wrong-lt-SLOTS
-unfolding sound_told
-returns-then-wrong-lt-SLOTS c =
-    let lowest = c.lowest-unwritten in
-    let if1 = c.if-unwritten-lt-SLOTS in
-    simp (← lowest.ensures, le-ltb _ _ if1.false, ← c.lowest-wrong.ensures, lt-ltb _ _ c.if-wrong-lt-SLOTS.true)
+pub overflow_mul-unwritten : goal.overflow_mul-unwritten
+overflow_mul-unwritten c = omega (arith, c.lowest-unwritten.ensures, lowest_most (fault_at c.args.self SoundUnwritten) 64 0)
 
-pub returns : goal.returns
-unfolding sound_told
-returns c =
-    let lowest = c.lowest-unwritten in
-    let if1 = c.if-unwritten-lt-SLOTS in
-    simp (← lowest.ensures, le-ltb _ _ if1.false, ← c.lowest-wrong.ensures, le-ltb _ _ c.if-wrong-lt-SLOTS.false)
+pub overflow_cast-wrong : goal.overflow_cast-wrong
+overflow_cast-wrong c = omega (arith, c.lowest-wrong.ensures, lowest_most (fault_at c.args.self SoundWrong) 64 0)
+
+pub overflow_mul-wrong : goal.overflow_mul-wrong
+overflow_mul-wrong c = omega (arith, c.lowest-wrong.ensures, lowest_most (fault_at c.args.self SoundWrong) 64 0)
