@@ -1,13 +1,12 @@
 -- Bytes judged one after another: those that were and those that are left make the whole. Then right bytes read, and wrong ones.
-use Prim.Native.Nat.{ℕ, ◌+◌, ◌/◌, ◌%◌, ◌<◌, ◌≤◌}
+use Prim.Native.Nat.{ℕ, ◌/◌, ◌%◌, ◌≤◌}
 use mathlib.Core.Bool.{Bool, true, false, ◌&&◌}
-use mathlib.Core.List.{List}
-use mathlib.Core.Path.{◌≡◌, refl, sym}
-use native.Mathlib.Numerals.{add-one}
+use mathlib.Core.List.{List, [], ◌∷◌}
+use mathlib.Core.Path.{◌≡◌, refl, sym, ◌∙◌}
 use borrow.Author.Tests.{leb-true}
 use lib.Dec.{leb, eqb}
-use lib.ListN.{length, get_or, drop, drop_of_length-le}
-use lib.Seq.{drop-cons}
+use lib.ListN.{length}
+use Rattle.std.proofs.Common.{fold}
 use Rattle.buffers.specs.Painted.{painted}
 use Rattle.buffers.proofs.Tests.{and_split}
 use Rattle.pictures.specs.Each.{each}
@@ -21,14 +20,11 @@ and_all : (a : Bool) → a && true ≡ a
 and_all true = refl
 and_all false = refl
 
-module _ (bytes : List ℕ) (k : ℕ) (all : Bool) where
-  pub guns_more : k < length bytes → all && each is_gun (drop k bytes) ≡ all && is_gun (get_or bytes k 0) && each is_gun (drop (k + 1) bytes)
-  unfolding each
-  guns_more h = rw (drop-cons bytes k 0 h, add-one) (and_assoc all _ _)
-
-  pub guns_end : length bytes ≤ k → all && each is_gun (drop k bytes) ≡ all
-  unfolding each
-  guns_end h = rw (drop_of_length-le bytes h) (and_all all)
+-- each byte's answer added to those before it
+pub guns_folded : (all : Bool) (bytes : List ℕ) → fold (λ a byte. a && is_gun byte) all bytes ≡ all && each is_gun bytes
+unfolding each
+guns_folded all [] = sym (and_all all)
+guns_folded all (b ∷ bs) = guns_folded (all && is_gun b) bs ∙ sym (and_assoc all (is_gun b) (each is_gun bs))
 
 module _ (bytes : List ℕ) where
   pub right_room : (room : ℕ) → read_right bytes room ≡ true → length bytes / 3 ≤ room

@@ -1,11 +1,13 @@
 -- Laws of the bytes of cells: how many, and one cell more.
-use Prim.Native.Nat.{ℕ, suc, ◌+◌, ◌*◌, ◌<◌}
-use mathlib.Core.Path.{◌≡◌, refl, ◌∙◌}
+use Prim.Native.Nat.{ℕ, suc, ◌+◌, ◌-◌, ◌*◌, ◌<◌, ◌≤◌}
+use mathlib.Core.Path.{◌≡◌, refl}
 use mathlib.Core.List.{List, [], ◌∷◌}
 use native.Mathlib.Numerals.{add-one}
 use native.Mathlib.Omega.{arith}
-use lib.ListN.{length, get_or, drop, set}
-use lib.Seq.{sets, drop-cons, drop-length}
+use lib.ListN.{length, get_or, drop, drop_of_length-le}
+use lib.Seq.{sets, drop-cons}
+use borrow.Rule.Slice.PartMut.{put_mid}
+use Rattle.buffers.proofs.Sets.{sets_range}
 use Rattle.colours.specs.Apart.{apart_of}
 use Rattle.colours.specs.Cells.{cell_colour}
 use Rattle.colours.specs.declared.apart.Apart.{Apart}
@@ -27,19 +29,25 @@ module _ (cell : ℕ) (a : Apart) (apart : a ≡ apart_of cell) where
   blue_apart : blue a.colour ≡ blue (cell_colour cell)
   blue_apart = rw apart (omega arith)
 
--- three stores
-pub guns_turn : (l cells : List ℕ) (k r g b : ℕ) (a : Apart) → k < length cells → a ≡ apart_of (get_or cells k 0)
-    → r ≡ red a.colour → g ≡ green a.colour → b ≡ blue a.colour
-    → sets (set (set (set l (3 * k) r) (3 * k + 1) g) (3 * k + 2) b) (3 * (k + 1)) (guns_of (drop (k + 1) cells))
-    ≡ sets l (3 * k) (guns_of (drop k cells))
+-- one cell's three stored
+pub guns_turn :
+    (l ys cells : List ℕ) (k : ℕ) (a : Apart) → k < length cells → 3 * length cells ≤ length l → a ≡ apart_of (get_or cells k 0)
+    → ys ≡ red a.colour ∷ green a.colour ∷ blue a.colour ∷ []
+    → sets l (3 * k) (guns_of (drop k cells)) ≡ sets (put_mid (3 * k) (3 * k + 3 - 3 * k) l ys) (3 * (k + 1)) (guns_of (drop (k + 1) cells))
 unfolding guns_of
-guns_turn l cells k r g b a h apart er eg eb =
+guns_turn l ys cells k a h fits apart e =
     let x = get_or cells k 0 in
-    let p : 3 * k + 1 ≡ suc (3 * k) = omega arith in
-    let q : 3 * k + 2 ≡ suc (suc (3 * k)) = omega arith in
     let t : 3 * (k + 1) ≡ suc (suc (suc (3 * k))) = omega arith in
-    rw (p, q, t, add-one, drop-cons cells k 0 h, er ∙ red_apart x a apart, eg ∙ green_apart x a apart, eb ∙ blue_apart x a apart)
+    rw (
+      sets_range l (red a.colour ∷ green a.colour ∷ blue a.colour ∷ []) (3 * k) (3 * k + 3 - 3 * k) (omega arith) (omega arith) e,
+      t,
+      add-one,
+      drop-cons cells k 0 h,
+      red_apart x a apart,
+      green_apart x a apart,
+      blue_apart x a apart,
+    )
 
-pub guns_done : (l cells : List ℕ) (i k : ℕ) → k ≡ length cells → sets l i (guns_of (drop k cells)) ≡ l
+pub guns_done : (l cells : List ℕ) (i k : ℕ) → length cells ≤ k → sets l i (guns_of (drop k cells)) ≡ l
 unfolding guns_of
-guns_done l cells i k e = rw (e, drop-length)
+guns_done l cells i k h = rw (drop_of_length-le cells h)

@@ -1,7 +1,7 @@
 // The head of a binary PPM file, taken byte by byte: `P6`, three numbers with white before each, and one white byte.
 ghost use Rattle.std.specs.Prelude.{◌≡◌, ◌-◌};
 ghost use Rattle.buffers.specs.Pick.{pick};
-ghost use Rattle.pictures.specs.Head.{is_white, is_digit};
+ghost use Rattle.pictures.specs.Head.{is_white};
 ghost use Rattle.pictures.specs.HeadNext.{with_digit, number_asked, white_next, behind_next, head_next, whole_head, open_head};
 
 // What was read of it.
@@ -25,23 +25,7 @@ pub enum Head {
 fn is_white(byte: u8) -> bool
     ensures { result ≡ is_white byte }
 {
-    (byte == b' ') | ((9 <= byte) & (byte <= 13))
-}
-
-fn is_digit(byte: u8) -> bool
-    ensures { result ≡ is_digit byte }
-{
-    (b'0' <= byte) & (byte <= b'9')
-}
-
-// What a byte says as a digit.
-fn digit(byte: u8) -> u8
-    ensures { result ≡ byte - 48 }
-{
-    if byte < b'0' {
-        return 0;
-    }
-    byte - b'0'
+    matches!(byte, b' ' | 9..=13)
 }
 
 // A number with a digit more. One past 65,535 is larger than any that is asked for, and stays as it is.
@@ -51,52 +35,32 @@ fn with_digit(number: u32, digit: u8) -> u32
     if 65535 < number {
         return number;
     }
-    10 * number + (digit as u32)
+    10 * number + u32::from(digit)
 }
 
 // Number k of a head: the width, the height and the greatest value.
 fn number_asked(k: u8, n: u16, v: u16) -> u32
     ensures { result ≡ number_asked n v k }
 {
-    if k == 0 {
-        return n as u32;
+    match k {
+        0 => u32::from(n),
+        1 => u32::from(v),
+        _ => 255,
     }
-    if k == 1 {
-        return v as u32;
-    }
-    255
 }
 
 impl Head {
     pub fn is_whole(self) -> bool
         ensures { result ≡ whole_head self }
     {
-        match self {
-            Head::Empty => false,
-            Head::Letter => false,
-            Head::Kind => false,
-            Head::White(_) => false,
-            Head::Comment(_) => false,
-            Head::Number(_, _) => false,
-            Head::Whole => true,
-            Head::Wrong => false,
-        }
+        matches!(self, Head::Whole)
     }
 
     // Whether there is more of it to come.
     pub fn is_open(self) -> bool
         ensures { result ≡ open_head self }
     {
-        match self {
-            Head::Empty => true,
-            Head::Letter => true,
-            Head::Kind => true,
-            Head::White(_) => true,
-            Head::Comment(_) => true,
-            Head::Number(_, _) => true,
-            Head::Whole => false,
-            Head::Wrong => false,
-        }
+        !matches!(self, Head::Whole | Head::Wrong)
     }
 
     fn only_if(self, so: bool) -> Head
@@ -132,7 +96,7 @@ impl Head {
     fn digits(k: u8, number: u32, byte: u8) -> Head
         ensures { result ≡ Head.Number k (with_digit number (byte - 48)) }
     {
-        Head::Number(k, with_digit(number, digit(byte)))
+        Head::Number(k, with_digit(number, byte.saturating_sub(b'0')))
     }
 
     // With a byte more, of a picture of n x v.
@@ -144,7 +108,7 @@ impl Head {
             Head::Letter => Head::Kind.only_if(byte == b'6'),
             Head::Kind => Head::before(0, byte),
             Head::White(k) => {
-                if is_digit(byte) {
+                if byte.is_ascii_digit() {
                     return Head::digits(k, 0, byte);
                 }
                 Head::before(k, byte)
@@ -156,7 +120,7 @@ impl Head {
                 self
             }
             Head::Number(k, number) => {
-                if is_digit(byte) {
+                if byte.is_ascii_digit() {
                     return Head::digits(k, number, byte);
                 }
                 Head::behind(k, byte).only_if(number == number_asked(k, n, v))

@@ -4,29 +4,22 @@
 pub mod head;
 pub mod read;
 
-ghost use Rattle.std.specs.Prelude.{◌≡◌, ◌+◌, ◌*◌, ◌≤◌, length};
+ghost use Rattle.std.specs.Prelude.{◌≡◌, [], ◌∷◌, ◌*◌, ◌≤◌, length};
 ghost use Rattle.std.proofs.lemmas.List.Edits.{sets};
 ghost use Rattle.buffers.specs.Put.{Put, text_in};
 ghost use Rattle.pictures.specs.Colours.{red, green, blue, guns_of};
 
 use colours::apart::Apart;
 
-fn red_of(colour: u16) -> u8
-    ensures { result ≡ red colour }
+// A colour's three bytes.
+fn three_of(colour: u16) -> [u8; 3]
+    ensures { result ≡ red colour ∷ green colour ∷ blue colour ∷ [] }
 {
-    (17 * (colour % 16)) as u8
-}
-
-fn green_of(colour: u16) -> u8
-    ensures { result ≡ green colour }
-{
-    (17 * (colour / 16 % 16)) as u8
-}
-
-fn blue_of(colour: u16) -> u8
-    ensures { result ≡ blue colour }
-{
-    (17 * (colour / 256 % 16)) as u8
+    [
+        (17 * (colour % 16)) as u8,
+        (17 * (colour / 16 % 16)) as u8,
+        (17 * (colour / 256 % 16)) as u8,
+    ]
 }
 
 // Three bytes for each cell, from the first place on.
@@ -34,13 +27,9 @@ fn put_cells(out: &mut [u8], cells: &[u16])
     requires { 3 * length cells.now ≤ length out.old }
     ensures { out.new ≡ sets out.old 0 (guns_of cells.now) }
 {
-    let mut k = 0;
-    while k < cells.len() {
-        let colour = Apart::of(cells[k]).colour;
-        out[3 * k] = red_of(colour);
-        out[3 * k + 1] = green_of(colour);
-        out[3 * k + 2] = blue_of(colour);
-        k += 1;
+    for (k, cell) in cells.iter().enumerate() {
+        let colour = Apart::of(*cell).colour;
+        out[3 * k..3 * k + 3].copy_from_slice(&three_of(colour));
     }
 }
 

@@ -1,26 +1,20 @@
 // A picture's bytes read back into colours: the inverse of `guns`.
-ghost use Rattle.std.specs.Prelude.{◌≡◌, ◌*◌, ◌≤◌, length};
+ghost use Rattle.std.specs.Prelude.{◌≡◌, ◌*◌, ◌≤◌, ◌&&◌, true, fold, length};
 ghost use Rattle.buffers.specs.Painted.{painted};
 ghost use Rattle.pictures.specs.Each.{each};
 ghost use Rattle.pictures.specs.Read.{is_gun, colour_read, colour_read_at, read_right, read_leaves};
 
-// Whether each byte is 17 times a gun: nothing ends this loop early, so that the machine takes many at once.
+// Whether each byte is 17 times a gun: nothing ends this early, so that the machine takes many at once.
 fn all_guns(bytes: &[u8]) -> bool
-    ensures { result ≡ each is_gun bytes.now }
+    ensures { result ≡ fold (λ all byte. all && is_gun byte) true bytes.now }
 {
-    let mut all = true;
-    let mut k = 0;
-    while k < bytes.len() {
-        all = all & (bytes[k] % 17 == 0);
-        k += 1;
-    }
-    all
+    bytes.iter().fold(true, |all, byte| all & (*byte % 17 == 0))
 }
 
 fn colour_read(r: u8, g: u8, b: u8) -> u16
     ensures { result ≡ colour_read r g b }
 {
-    (r / 17) as u16 + 16 * ((g / 17) as u16) + 256 * ((b / 17) as u16)
+    u16::from(r / 17) + 16 * u16::from(g / 17) + 256 * u16::from(b / 17)
 }
 
 // The colours of n threes, from the first place on.
@@ -28,10 +22,8 @@ fn put_colours(out: &mut [u16], bytes: &[u8], n: usize)
     requires { (3 * n ≤ length bytes.now) × (n ≤ length out.old) }
     ensures { out.new ≡ painted out.old 0 n (colour_read_at bytes.now) }
 {
-    let mut k = 0;
-    while k < n {
+    for k in 0..n {
         out[k] = colour_read(bytes[3 * k], bytes[3 * k + 1], bytes[3 * k + 2]);
-        k += 1;
     }
 }
 
