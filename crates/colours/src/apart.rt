@@ -11,7 +11,7 @@ pub struct Apart {
 }
 
 impl Apart {
-    // Of the 13 bits that a palette entry and a cell hold lowest; what is above them plays no part.
+    // Of the 13 bits that a palette entry and a cell hold lowest; what is above them plays no part, so that it is no `From`.
     pub fn of(held: u16) -> Apart
         ensures { result ≡ apart_of held }
     {
@@ -25,10 +25,7 @@ impl Apart {
     fn both(self) -> u16
         ensures { result ≡ both_of self }
     {
-        if self.supremacy {
-            return 4096 + self.colour % 4096;
-        }
-        self.colour % 4096
+        u16::from(self.supremacy) * 4096 + self.colour % 4096
     }
 
     // The cell of a code, which has three bits.

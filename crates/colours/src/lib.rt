@@ -4,7 +4,6 @@
 pub mod apart;
 
 ghost use Rattle.std.specs.Prelude.{◌≡◌};
-ghost use Rattle.buffers.specs.Pick.{pick};
 ghost use Rattle.colours.specs.Apart.{apart_of};
 ghost use Rattle.colours.specs.Colour.{mixed, shown_of, colour_of, entries_of};
 ghost use Rattle.colours.specs.Grey.{grey_of};
@@ -17,7 +16,7 @@ use registers::record::Registers;
 fn mix(entry: u16, pixel: u8) -> u16
     ensures { result ≡ mixed entry pixel }
 {
-    let p = pixel as u16;
+    let p = u16::from(pixel);
     entry / 4096 % 2 * 4096
         + p / 128 % 2 * 2048
         + entry / 256 % 8 * 256
@@ -50,10 +49,8 @@ pub fn entries(g: Registers) -> [u16; 16]
     ensures { result ≡ entries_of g }
 {
     let mut list = [0u16; 16];
-    let mut k: usize = 0;
-    while k < 16 {
-        list[k] = g.palette(k as u8);
-        k += 1;
+    for k in 0..16 {
+        list[usize::from(k)] = g.palette(k);
     }
     list
 }
@@ -66,21 +63,14 @@ pub fn grey(colour: u16) -> u8
     (17 * weighed / 256) as u8
 }
 
-fn level(low: bool) -> u8
-    ensures { result ≡ pick low 0 1 }
-{
-    if low {
-        return 0;
-    }
-    1
-}
-
 // The sync pin's level for a code and the control data: 0 low, 1 high.
 pub fn pin(code: u8, control: u32) -> u8
     ensures { result ≡ pin_of code control }
 {
-    if control / 0x80 % 2 == 1 {
-        return level((code == 1) | (code == 2));
-    }
-    level((code == 2) | (code == 3))
+    let low = if control / 0x80 % 2 == 1 {
+        (code == 1) | (code == 2)
+    } else {
+        (code == 2) | (code == 3)
+    };
+    u8::from(!low)
 }
