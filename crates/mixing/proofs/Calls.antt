@@ -1,13 +1,17 @@
 -- The call from the check on: refused with the setting, refused by a row of its own, or laid. The setting's table with those rows behind
 -- it is the call's own, and where the call is refused the lent answer is as it was.
-use Prim.Native.Nat.{ℕ, ◌<◌, ◌≤◌}
-use mathlib.Core.Bool.{Bool, true, false, ◌||◌}
-use mathlib.Core.List.{List}
-use mathlib.Core.Path.{◌≡◌, refl, sym, ◌∙◌}
+use Prim.Native.Nat.{ℕ, ◌+◌, ◌-◌, ◌<◌, ◌≤◌}
+use mathlib.Core.Bool.{Bool, false, ◌||◌}
+use mathlib.Core.List.{List, ◌++◌}
+use mathlib.Core.Path.{◌≡◌, refl, sym, ap, ◌∙◌}
+use native.Mathlib.Omega.{arith}
 use borrow.Author.Tests.{lt-ltb, le-ltb, ltb-false}
 use lib.Dec.{ltb}
-use lib.ListN.{length}
+use lib.ListN.{length, take, drop, get_or, length-append, length-drop, get_or-append}
+use lib.Seq.{get_or-take, length-take-le}
+use Rattle.std.proofs.lemmas.List.{get_or-append_right, get_or-drop}
 use Rattle.buffers.specs.Painted.{painted}
+use Rattle.buffers.proofs.Paints.{paints_painted}
 use Rattle.buffers.proofs.Tests.{or_neither}
 use Rattle.refusals.specs.Table.{Told, Why, why, given, refused, judged, and_then, unless_refused}
 use Rattle.refusals.proofs.Tables.{given_passes}
@@ -16,7 +20,9 @@ use Rattle.registers.specs.Setting.{setting_of}
 use Rattle.registers.specs.declared.record.Registers.{Registers}
 use Rattle.registers.specs.declared.setting.Setting.{Setting}
 use Rattle.registers.proofs.Told.{check_told_holds, check_then}
-use Rattle.mixing.specs.Mix.{first_too_large, mix_rows, mix_table, mix_told, mix_leaves, mixed_at}
+use Rattle.mixing.specs.Mix.{mix_rows, mix_table, mix_told, mix_leaves, mixed_at}
+use Rattle.mixing.specs.inner.First.{AllFew, FirstLarge}
+use Rattle.mixing.proofs.Numbers.{all_few, first_at}
 
 -- The call's own rows, for a raster of n cells.
 module _ (n : ℕ) (cells camera : List ℕ) (room : ℕ) where
@@ -26,9 +32,6 @@ module _ (n : ℕ) (cells camera : List ℕ) (room : ℕ) where
   abbrev told : Told (Unit {0})
   told = judged (mix_rows n cells camera room) tt
 
-  pub told_short : short ≡ true → refused (why 13 0) ≡ told
-  told_short e = rw e
-
   module _ (e : short ≡ false) where
     pub long_enough : (n ≤ length cells) × (n ≤ length camera) × (n ≤ room)
     long_enough =
@@ -36,11 +39,43 @@ module _ (n : ℕ) (cells camera : List ℕ) (room : ℕ) where
         let lists = or_neither (ltb (length cells) n) (ltb (length camera) n) both.0 in
         (ltb-false _ _ lists.0, ltb-false _ _ lists.1, ltb-false _ _ both.1)
 
-    pub told_large : (first : ℕ) → first ≡ first_too_large camera n → first < n → refused (why 20 first) ≡ told
-    told_large first f h = rw (e, ← f, lt-ltb first n h)
+  module _ (a : n ≤ length cells) (b : n ≤ length camera) (c : n ≤ room) where
+    pub not_short : short ≡ false
+    not_short = rw (le-ltb (length cells) n a, le-ltb (length camera) n b, le-ltb room n c)
 
-    pub told_laid : (first : ℕ) → first ≡ first_too_large camera n → n ≤ first → given tt ≡ told
-    told_laid first f h = rw (e, ← f, le-ltb first n h)
+    -- The first n numbers of the camera.
+    taken : (k : ℕ) → k < n → get_or (take n camera) k 0 ≡ get_or camera k 0
+    taken k h = get_or-take n camera k 0 h
+
+    pub told_large : (i : ℕ) → FirstLarge (take n camera) i → refused (why 20 i) ≡ told
+    told_large i f =
+        let inside : i < n = omega (arith, f.inside, length-take-le n camera b) in
+        let at = first_at camera n i inside (rw taken at f.above) (λ k h. rw (← taken k (omega arith)) (f.first k h)) in
+        rw (not_short, at, lt-ltb i n inside)
+
+    pub told_laid : AllFew (take n camera) → given tt ≡ told
+    told_laid few =
+        let none = all_few camera n (λ k h. rw (← taken k h) (few k (rw length-take-le h))) in
+        rw (not_short, ← none, le-ltb n n (omega arith))
+
+-- The first n places laid, and the others as they were.
+module _ (n : ℕ) (cells camera out new : List ℕ) where
+  pub laid : n ≤ length out → length new ≡ n
+      → ((k : ℕ) → k < length new → get_or new k 0 ≡ mixed_at (take n cells) (take n camera) k)
+      → new ++ drop n out ≡ painted out 0 n (mixed_at cells camera)
+  laid room long each =
+      paints_painted room
+      record {
+        len = simp (length-append, length-drop) (omega arith);
+        low = λ k h. absurd (omega arith);
+        on = λ k h t. get_or-append new _ 0 k (omega arith) ∙ each k (omega arith) ∙ rw (get_or-take n cells k 0 t, get_or-take n camera k 0 t);
+        high = rest;
+      }
+    where
+      rest : (k : ℕ) → n ≤ k → get_or (new ++ drop n out) k 0 ≡ get_or out k 0
+      rest k h =
+          get_or-append_right new _ n k 0 long h ∙ get_or-drop n out (k - n) 0
+          ∙ ap (λ (i : ℕ). get_or out i 0) (let q : n + (k - n) ≡ k = omega arith in q)
 
 -- What it tells is its whole table judged: first the setting's rows, then those.
 module _ (g : Registers) (cells camera : List ℕ) where

@@ -6,7 +6,7 @@ use mathlib.Core.Logic.{◌↔◌, inl, inr}
 use mathlib.Core.Path.{◌≡◌, refl, sym, ◌∙◌, ap}
 use native.Mathlib.Omega.{arith}
 use borrow.Author.Tests.{lt-ltb, le-ltb, ltb-true, ltb-false}
-use lib.ListN.{length, get_or}
+use lib.ListN.{get_or}
 use Rattle.refusals.specs.Table.{Why, why, given, refused, Passes, First}
 use Rattle.refusals.proofs.Tables.{◌⨾◌, passes_both, passes_first, passes_second, passes_given, given_passes}
 use Rattle.refusals.proofs.Tables.{refused_first, first_refused, first_behind, behind_first}
@@ -15,13 +15,12 @@ use Rattle.registers.specs.Rules.{EveryRule}
 use Rattle.registers.specs.Setting.{setting_of}
 use Rattle.registers.specs.declared.record.Registers.{Registers}
 use Rattle.registers.proofs.Exactly.{exactly}
-use Rattle.registers.proofs.First.{lowest_here, lowest_passes, lowest_fails}
-use Rattle.registers.proofs.Groups.{lowest_skip}
+use Rattle.registers.proofs.First.{lowest_passes, lowest_fails}
 use Rattle.registers.proofs.Told.{check_told_holds}
 use Rattle.mixing.specs.Mix.{too_large, first_too_large, mix_rows, mix_table, mix_told}
 use Rattle.mixing.specs.Rules.{Judged, MixRules, TooLargeAt}
-use Rattle.mixing.proofs.Calls.{short, long_enough, mix_told_holds}
-use Rattle.mixing.proofs.Numbers.{all_colours}
+use Rattle.mixing.proofs.Calls.{short, long_enough, not_short, mix_told_holds}
+use Rattle.mixing.proofs.Numbers.{all_few, first_at}
 
 -- The setting's table is passed exactly when its rules hold.
 module _ (g : Registers) where
@@ -31,15 +30,9 @@ module _ (g : Registers) where
   pass_rules : Passes (setting_table g) → EveryRule g
   pass_rules p = (exactly g).0 (check_told_holds g ∙ passes_given (setting_of g) (setting_table g) p)
 
--- The first number too large is at an index exactly where those before it are not.
-module _ (camera : List ℕ) (n : ℕ) where
-  few_before : (x : ℕ) → x < first_too_large camera n → get_or camera x 0 ≤ 4095
-  few_before x h = ltb-false 4095 (get_or camera x 0) (lowest_fails (too_large camera) n 0 x (omega arith) h)
-
-  first_at : (i : ℕ) → i < n → 4095 < get_or camera i 0 → ((x : ℕ) → x < i → get_or camera x 0 ≤ 4095) → first_too_large camera n ≡ i
-  first_at i here above first =
-      lowest_skip (too_large camera) n i (omega arith) (λ j h. le-ltb 4095 (get_or camera j 0) (first j h))
-      ∙ lowest_here (too_large camera) n i here (lt-ltb 4095 (get_or camera i 0) above)
+-- Before the first number too large there is none.
+few_before : (camera : List ℕ) (n x : ℕ) → x < first_too_large camera n → get_or camera x 0 ≤ 4095
+few_before camera n x h = ltb-false 4095 (get_or camera x 0) (lowest_fails (too_large camera) n 0 x (omega arith) h)
 
 module _ (g : Registers) (cells camera : List ℕ) (room : ℕ) where
   abbrev places : ℕ
@@ -47,9 +40,7 @@ module _ (g : Registers) (cells camera : List ℕ) (room : ℕ) where
 
   -- Row 13 is passed exactly by lists and an answer that are long enough.
   lists_short : Judged g cells camera room → short places cells camera room ≡ false
-  lists_short j =
-      rw
-      (le-ltb (length cells) places j.cells_long, le-ltb (length camera) places j.camera_long, le-ltb room places j.answer_long)
+  lists_short j = not_short places cells camera room j.cells_long j.camera_long j.answer_long
 
   judged_by : EveryRule g → short places cells camera room ≡ false → Judged g cells camera room
   judged_by h e =
@@ -71,7 +62,7 @@ module _ (g : Registers) (cells camera : List ℕ) (room : ℕ) where
 
       from : MixRules g cells camera room → mix_told g cells camera room ≡ given tt
       from r =
-          let none = all_colours camera places 4095 r.colours (omega arith) in
+          let none = all_few camera places r.colours in
           mix_told_holds g cells camera room
           ∙ passes_given tt (mix_table g cells camera room)
           (passes_both (setting_table g) (mix_rows places cells camera room) (rules_pass g r.judged.setting)

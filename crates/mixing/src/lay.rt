@@ -1,6 +1,5 @@
 // Cells over camera colours, place by place.
-ghost use Rattle.std.specs.Prelude.{◌≡◌, ◌≤◌, length};
-ghost use Rattle.buffers.specs.Painted.{painted};
+ghost use Rattle.std.specs.Prelude.{◌≡◌, EachIndex, length, slice_index};
 ghost use Rattle.mixing.specs.Mix.{shown_over, mixed_at};
 
 use colours::apart::Apart;
@@ -17,14 +16,12 @@ fn shown_over(cell: u16, camera: u16) -> u16
     own.colour
 }
 
-// Both lists and the answer have the n places.
-pub fn lay(out: &mut [u16], cells: &[u16], camera: &[u16], n: usize)
-    requires { (n ≤ length cells.now) × (n ≤ length camera.now) × (n ≤ length out.old) }
-    ensures { out.new ≡ painted out.old 0 n (mixed_at cells.now camera.now) }
+// Both lists and the answer have as many places.
+pub fn lay(out: &mut [u16], cells: &[u16], camera: &[u16])
+    requires { (length cells.now ≡ length out.old) × (length camera.now ≡ length out.old) }
+    ensures { EachIndex out.new (λ k. slice_index out.new k ≡ mixed_at cells.now camera.now k) }
 {
-    let mut k = 0;
-    while k < n {
-        out[k] = shown_over(cells[k], camera[k]);
-        k += 1;
+    for (k, place) in out.iter_mut().enumerate() {
+        *place = shown_over(cells[k], camera[k]);
     }
 }

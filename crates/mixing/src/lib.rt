@@ -23,16 +23,18 @@ fn judged_mix(n: Pixels, cells: &[u16], camera: &[u16], out: &mut [u16]) -> Answ
         × (out.new
         ≡ unless_refused (answer_says result) out.old (painted out.old 0 n.0 (mixed_at cells.now camera.now))) }
 {
-    let end = n.0 as usize;
-    if (cells.len() < end) | (camera.len() < end) | (out.len() < end) {
+    let end = usize::from(n.0);
+    if cells.len().min(camera.len()).min(out.len()) < end {
         return Answer::Refused(Refusal::Short);
     }
-    let first = first_too_large(camera, end);
-    if first < end {
-        return Answer::Refused(Refusal::Camera(first as u32));
+    let camera = &camera[..end];
+    match first_too_large(camera) {
+        Some(first) => Answer::Refused(Refusal::Camera(first as u32)),
+        None => {
+            lay(&mut out[..end], &cells[..end], camera);
+            Answer::Done
+        }
     }
-    lay(out, cells, camera, end);
-    Answer::Done
 }
 
 // The N colours of a raster's cells over the camera's, from the first place on. Refusals: the setting's, 13, 20.

@@ -1,11 +1,7 @@
--- Place after place: after each turn the first k hold what the rule gives, and nothing else has changed.
-use Prim.Native.Nat.{◌-◌, ◌≤◌}
-use Rattle.buffers.proofs.Paints.{Paints}
+-- Place after place: each of the first k holds what the rule gives.
+use Rattle.std.proofs.Common.{◌≡◌, ℕ, ◌<◌, get_or}
 use Rattle.mixing.specs.Mix.{mixed_at}
 use Rattle.mixing.proofs.lay.lay.Given as goal
 
 abbrev pub invariant-loop-k : goal.invariant-loop-k
-invariant-loop-k l = (l.k ≤ l.n) × Paints 0 l.initial.out l.out 0 l.k (mixed_at l.cells l.camera)
-
-abbrev pub decreases-loop-k : goal.decreases-loop-k
-decreases-loop-k l = l.n - l.k
+invariant-loop-k l = (i : ℕ) → i < l.k → get_or l.out i 0 ≡ mixed_at l.cells l.camera i
