@@ -3,7 +3,6 @@ pub mod Amplitudes
 pub mod Signed
 pub mod Turns
 pub mod Eleven
-pub mod Calls
 pub mod Unique
 pub mod Cases
 pub mod Accepted

@@ -10,7 +10,7 @@ use Rattle.buffers.specs.Words.{bytes_of, byte_of}
 use Rattle.buffers.proofs.Words.{length_bytes, bytes_at}
 use Rattle.buffers.proofs.Sets.{sets_at, sets_beyond}
 use Rattle.refusals.specs.Table.{Told, given, unless_refused}
-use Rattle.refusals.specs.Refusals.{answer_says}
+use Rattle.refusals.specs.Refusals.{says}
 use Rattle.registers.specs.declared.record.Registers.{Registers}
 use Rattle.sound.specs.Amplitude.{value_of}
 use Rattle.sound.specs.Sixths.{left_of, right_of, left_at, right_at}
@@ -119,19 +119,19 @@ pair_within byte stereo b lo hi = (omega arith, value_range byte (left_of stereo
 
 -- Of the sound call's own promises: the counter afterwards, and every place.
 pub every_place :
-    (κs : Lfts 2) (a : Dens κs play_kinds.ps) (x : (res_t play_kinds.r κs).Denot) (s : AtExit (ended_of 2 play_kinds.ps play_kinds.r) κs)
-    → play_reads.Post κs a x s → answer_says x.answer ≡ given tt
-    → (x.counter ≡ (a.1.1.0 + 4 * length a.1.0.now) % 2 ^ 32)
-    × EveryPlace a.0 a.1.0.now a.1.1.0 a.1.1.1.0.now s.1.1.1.0.now
+    (κs : Lfts 3) (a : Dens κs play_kinds.ps) (x : (res_t play_kinds.r κs).Denot) (s : AtExit (ended_of 3 play_kinds.ps play_kinds.r) κs)
+    → play_reads.Post κs a x s → says x ≡ given tt
+    → (s.1.1.0.now ≡ (a.1.1.0.now + 4 * length a.1.0.now) % 2 ^ 32)
+    × EveryPlace a.0 a.1.0.now a.1.1.0.now a.1.1.1.0.now s.1.1.1.0.now
 unfolding played_of
 every_place κs a x s p e =
     let g = a.0 in
     let words = a.1.0.now in
-    let counter = a.1.1.0 in
+    let counter = a.1.1.0.now in
     let out = a.1.1.1.0.now in
     let t : play_told g (length words) (length out) ≡ given tt = sym p.0 ∙ e in (
-      p.1 ∙ ap (λ (u : Told (Unit {0})). unless_refused u counter (counter_after counter (4 * length words))) t,
+      p.1.0 ∙ ap (λ (u : Told (Unit {0})). unless_refused u counter (counter_after counter (4 * length words))) t,
       subst (EveryPlace g words counter out)
-          (sym (p.2 ∙ ap (λ (u : Told (Unit {0})). unless_refused u out (sets out 0 (played_of g counter words))) t))
+          (sym (p.1.1 ∙ ap (λ (u : Told (Unit {0})). unless_refused u out (sets out 0 (played_of g counter words))) t))
           (places g words counter out t),
     )

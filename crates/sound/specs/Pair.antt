@@ -1,18 +1,10 @@
 -- One byte's pair for a stereo value of three bits: 10 where it is 0.
 use Rattle.std.specs.Prelude.{ℕ, List, [], ◌∷◌, ◌==◌}
 use Rattle.buffers.specs.Bits.{bits}
-use Rattle.refusals.specs.Table.{Told, Row, row, judged, given}
-use Rattle.refusals.specs.Refusals.{refusal}
+use Rattle.refusals.specs.Table.{Told, Row, row, judged}
 use Rattle.sound.specs.Amplitude.{value_of}
 use Rattle.sound.specs.Sixths.{left_of, right_of}
 use Rattle.sound.specs.declared.Sides.{Sides}
-use Rattle.sound.specs.declared.Pairing.{Pairing}
-use Rattle.sound.specs.declared.Pairing.TheVariants.{Given, Refused}
-
--- An answer as the paper has it.
-abbrev pub pair_says : Pairing → Told Sides
-pair_says (Given sides) = given sides
-pair_says (Refused why) = refusal why
 
 abbrev pub sides_of : ℕ → ℕ → Sides
 sides_of byte stereo = record { left = value_of byte (left_of stereo); right = value_of byte (right_of stereo) }

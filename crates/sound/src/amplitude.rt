@@ -6,7 +6,7 @@ ghost use Rattle.sound.specs.Amplitude.{amplitude_of, signed_of, value_of};
 fn amplitude(byte: u8) -> u16
     ensures { result ≡ amplitude_of byte }
 {
-    let point = (byte / 2 % 16) as u16;
+    let point = u16::from(byte / 2 % 16);
     let chord = byte / 32;
     ((point + 16) << chord) - 16
 }
@@ -27,5 +27,5 @@ pub fn value(byte: u8, sixths: u8) -> i16
     requires { sixths ≤ 7 }
     ensures { result ≡ value_of byte sixths }
 {
-    signed(byte) * (sixths as i16)
+    signed(byte) * i16::from(sixths)
 }

@@ -1,52 +1,46 @@
-// The sixths of each side, by stereo value and by channel.
+// The sixths of each side, by stereo value and by channel; and a byte's value on each.
 ghost use Rattle.std.specs.Prelude.{◌≡◌, ◌≤◌};
-ghost use Rattle.sound.specs.Sixths.{left_of, right_of, left_at, right_at};
-ghost use Rattle.sound.specs.inner.Tables.{SixthsOf};
+ghost use Rattle.sound.specs.Amplitude.{value_of};
+ghost use Rattle.sound.specs.inner.Tables.{sixths_of, sixths_at};
 
+use crate::Sides;
+use crate::amplitude::value;
 use registers::record::Registers;
 
-pub fn left_of(stereo: u8) -> u8
-    requires { stereo ≤ 7 }
-    ensures { result ≡ left_of stereo }
-{
-    7 - stereo
+// How a byte is shared between the sides.
+#[derive(Clone, Copy)]
+pub struct Sixths {
+    pub left: u8,
+    pub right: u8,
 }
 
-// The rest: none for a stereo value 0.
-pub fn right_of(stereo: u8) -> u8
-    requires { stereo ≤ 7 }
-    ensures { result ≡ right_of stereo }
-{
-    if stereo == 0 {
-        return 0;
+impl Sixths {
+    // By a stereo value; the rest goes right, none for a stereo value 0.
+    pub fn of(stereo: u8) -> Sixths
+        requires { stereo ≤ 7 }
+        ensures { result ≡ sixths_of stereo }
+    {
+        Sixths {
+            left: 7 - stereo,
+            right: stereo.saturating_sub(1),
+        }
     }
-    stereo - 1
-}
 
-fn left_at(registers: Registers, channel: u8) -> u8
-    ensures { result ≡ left_at registers channel }
-{
-    left_of(registers.stereo(channel))
-}
-
-fn right_at(registers: Registers, channel: u8) -> u8
-    ensures { result ≡ right_at registers channel }
-{
-    right_of(registers.stereo(channel))
-}
-
-// The sixths of channels in a row, left then right of each. 8 to 10 are channels 0 to 2 again: so the sixths of a word's four bytes
-// stand side by side.
-pub fn sixths(registers: Registers) -> [u8; 22]
-    ensures { SixthsOf registers result 11 }
-{
-    let mut table = [0u8; 22];
-    let mut channel = 0u8;
-    while channel < 11 {
-        let at = 2 * channel as usize;
-        table[at] = left_at(registers, channel);
-        table[at + 1] = right_at(registers, channel);
-        channel += 1;
+    // By a channel: its register's stereo value says them.
+    pub fn at(registers: Registers, channel: u8) -> Sixths
+        ensures { result ≡ sixths_at registers channel }
+    {
+        Sixths::of(registers.stereo(channel))
     }
-    table
+
+    // A byte's two values.
+    pub fn sides(self, byte: u8) -> Sides
+        requires { (self.left ≤ 7) × (self.right ≤ 7) }
+        ensures { result ≡ record { left = value_of byte self.left; right = value_of byte self.right } }
+    {
+        Sides {
+            left: value(byte, self.left),
+            right: value(byte, self.right),
+        }
+    }
 }

@@ -1,32 +1,15 @@
--- The sound call, by what the check of its record tells: refused as it is, or short of room, or all values stored.
-use Rattle.sound.proofs.Calls.{play_refused, play_short, play_done}
-use Rattle.sound.proofs.Eleven.{sixths_all}
-use Rattle.refusals.specs.Refusals.{answer_says}
-use Rattle.std.proofs.Common.{sym, ap, ◌∙◌, rules}
+-- Once it is neither refused nor short of room, what is stored is what the record's own stereo values give.
+use Rattle.std.proofs.Common.{◌*◌, ◌/◌, length, ap, ◌∙◌, arith, ltb-false, le-ltb}
+use lib.Seq.{sets}
+use Rattle.sound.proofs.Accepted.{play_rows}
+use Rattle.sound.proofs.Eleven.{values_by}
 use Rattle.sound.proofs.play.Goals as goal
 
-pub returns-then-out-words : goal.returns-then-out-words
-returns-then-out-words c =
-    let args = c.args in
-    let check_sound = c.check_sound in
-    play_short args.registers args.words.now args.counter args.out.now
-    (ap answer_says (sym c.in-Done.is) ∙ check_sound.ensures) c.if-out-words.true
-
-pub play_words-after-requires : goal.play_words-after-requires
-play_words-after-requires c =
-    let args = c.args in
-    (search rules, sixths_all args.registers _ c.sixths-table.ensures)
-
-pub returns-in-Refused : goal.returns-in-Refused
-returns-in-Refused c =
-    let args = c.args in
-    let check_sound = c.check_sound in
-    play_refused args.registers args.words.now args.counter args.out.now _
-    (ap answer_says (sym c.in-Refused.is) ∙ check_sound.ensures)
-
-pub returns-else-out-words : goal.returns-else-out-words
-returns-else-out-words c =
-    let args = c.args in
-    play_done args.registers args.words.now args.counter args.out.now _ _ _
-    (ap answer_says (sym c.in-Done.is) ∙ c.check_sound.ensures) c.if-out-words.false
-    c.sixths-table.ensures c.play_words-after.ensures.0 c.play_words-after.ensures.1
+pub returns-clause-left : goal.returns-clause-left
+returns-clause-left c =
+    let g = c.args.registers in
+    let words = c.args.words.now in
+    let out = c.args.out.now in
+    let room = ltb-false (length out / 8) (length words) c.in_ok-refuse_if.ensures in
+    rw (play_rows g (length words) (length out), ← c.in_ok-check_sound.ensures, le-ltb (length out) (8 * length words) (omega (arith, room)))
+    (c.play.ensures.1 ∙ ap (sets out 0) (values_by g c.of.result.sixths c.of.ensures c.args.counter.now words))

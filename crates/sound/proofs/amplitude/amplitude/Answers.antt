@@ -9,4 +9,4 @@ overflow_sub-result c = le_trans (omega arith) (shifted_least _ _ (omega arith) 
 
 pub returns : goal.returns
 unfolding amplitude_of
-returns c = ap (λ n. n - 16) (shifted c.args.byte (search rules))
+returns c = rw c.from-point.ensures (ap (λ n. n - 16) (shifted c.args.byte (search rules)))
