@@ -14,12 +14,10 @@ use Rattle.registers.specs.Control.{pixel_rate}
 use Rattle.registers.specs.Geometry.{sub_position}
 use Rattle.registers.specs.Setting.{setting_of, display_on, border_on}
 use Rattle.registers.specs.Needed.{needed, missing}
-use Rattle.registers.specs.Lowest.{fault_at}
 use Rattle.registers.specs.Check.{horizontal_rule, sync_rule, display_rule, border_rule, vertical_rule, cursor_rule, unwritten, setting_table, check_told}
 use Rattle.registers.specs.Rules.{Horizontal, Displayed, Bordered, Vertical, EveryRule, SyncTooShort}
 use Rattle.registers.specs.declared.record.Registers.{Registers}
 use Rattle.registers.specs.declared.setting.Setting.{Setting}
-use Rattle.registers.specs.declared.lowest.Fault.TheVariants.{Unwritten}
 use Rattle.registers.proofs.First.{lowest_passes, lowest_fails}
 
 not_of : {t : Bool} → t ≡ true → not t ≡ false
@@ -122,7 +120,7 @@ module _ (g : Registers) where
   all_written : ltb (unwritten g) 64 ≡ false → (slot : ℕ) → slot < 64 → needed g slot ≡ true → written_in g slot ≡ true
   all_written e slot h n =
       let low : 64 ≤ unwritten g = ltb-false _ _ e in
-      let f : missing g slot ≡ false = lowest_fails (fault_at g Unwritten) 64 0 slot (omega arith) (omega arith) in
+      let f : missing g slot ≡ false = lowest_fails (missing g) 64 0 slot (omega arith) (omega arith) in
       not-false _ (sym (ap (λ (b : Bool). b && not (written_in g slot)) n) ∙ f)
 
   none_missing : ((slot : ℕ) → slot < 64 → needed g slot ≡ true → written_in g slot ≡ true) → ltb (unwritten g) 64 ≡ false
@@ -132,7 +130,7 @@ module _ (g : Registers) where
       go false e = refl
       go true e =
           let h : unwritten g < 64 = ltb-true _ _ e in
-          let m : missing g (unwritten g) ≡ true = lowest_passes (fault_at g Unwritten) 64 0 h in
+          let m : missing g (unwritten g) ≡ true = lowest_passes (missing g) 64 0 h in
           let p = and_split (needed g (unwritten g)) (not (written_in g (unwritten g))) m in
           let w = all (unwritten g) h p.0 in
           cc (w, not-true (written_in g (unwritten g)) p.1)

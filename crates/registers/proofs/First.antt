@@ -3,11 +3,14 @@ use Prim.Native.Nat.{ℕ, zero, suc, ◌+◌, ◌-◌, ◌<◌, ◌≤◌}
 use mathlib.Core.Path.{◌≡◌, refl, sym, ◌∙◌, ap}
 use mathlib.Core.Bool.{Bool, true, false}
 use mathlib.Core.Logic.{◌⊎◌, inl, inr}
+use Rattle.std.specs.Prelude.{Option, Some, None}
+use lib.Dec.{ltb}
+use borrow.Author.Tests.{ltb-true, lt-ltb}
 use native.Mathlib.Nat.{eq-or-lt_of_le}
 use native.Mathlib.Numerals.{add-one}
 use native.Mathlib.Omega.{arith}
 use Rattle.buffers.specs.Pick.{pick}
-use Rattle.registers.specs.Lowest.{lowest}
+use Rattle.registers.specs.Lowest.{lowest, lowest_slot}
 
 module _ (test : ℕ → Bool) where
   -- one step of the loop over n slots, at slot k
@@ -60,3 +63,25 @@ module _ (test : ℕ → Bool) where
       go true e h more (inr l) = absurd (omega arith)
       go false e h more (inl q) = ap test (sym q) ∙ e
       go false e h more (inr l) = more (omega arith) h
+
+  -- where one of the 64 passes the test, it is that slot,
+  pub slot_given : (k : ℕ) → Some k ≡ lowest_slot test → (lowest test 64 0 ≡ k) × (k < 64)
+  slot_given k e = go (ltb (lowest test 64 0) 64) refl e
+    where
+      go : (b : Bool) → ltb (lowest test 64 0) 64 ≡ b → Some k ≡ pick b (Some (lowest test 64 0)) None → (lowest test 64 0 ≡ k) × (k < 64)
+      go true h q = let same : lowest test 64 0 ≡ k = cc in (same, rw same at (ltb-true _ _ h))
+      go false h q = cc
+
+  -- and where none does, it is none of them
+  pub none_given : None ≡ lowest_slot test → ltb (lowest test 64 0) 64 ≡ false
+  none_given e = go (ltb (lowest test 64 0) 64) e
+    where
+      go : (b : Bool) → None ≡ pick b (Some (lowest test 64 0)) None → b ≡ false
+      go true q = cc
+      go false q = refl
+
+  pub slot_is : (k : ℕ) → lowest test 64 0 ≡ k → k < 64 → lowest_slot test ≡ Some k
+  slot_is k e h = rw (e, lt-ltb k 64 h)
+
+  pub slot_is_none : lowest test 64 0 ≡ 64 → lowest_slot test ≡ None
+  slot_is_none e = rw e

@@ -9,11 +9,9 @@ use Rattle.buffers.proofs.Tests.{or_neither}
 use Rattle.refusals.specs.Table.{given}
 use Rattle.refusals.proofs.Tables.{passed, given_passes}
 use Rattle.registers.specs.Addresses.{stereo_slot}
-use Rattle.registers.specs.Lowest.{fault_at}
 use Rattle.registers.specs.Stereo.{stereo_in, stereo_of, is_stereo, sound_wrong}
 use Rattle.registers.specs.Sound.{sound_table, sound_fault, sound_told}
 use Rattle.registers.specs.declared.record.Registers.{Registers}
-use Rattle.registers.specs.declared.lowest.Fault.TheVariants.{SoundWrong}
 use Rattle.registers.proofs.First.{lowest_fails}
 
 -- a stereo value that is not at fault is not 0
@@ -27,6 +25,6 @@ unfolding sound_told
 stereo_positive g channel e =
     let rows = sound_table g in
     let fault : 64 ≤ sound_fault g = ltb-false (sound_fault g) 64 (passed 10 rows (given_passes tt rows tt e).0) in
-    let fails = lowest_fails (fault_at g SoundWrong) 64 0 (stereo_slot channel) (omega arith) (omega arith) in
+    let fails = lowest_fails (sound_wrong g) 64 0 (stereo_slot channel) (omega arith) (omega arith) in
     let ne = eqb-false (stereo_of g channel) 0 (nonzero g (stereo_slot channel) (omega arith) (omega arith) fails) in
     omega (arith, ne)

@@ -4,10 +4,10 @@ use Rattle.refusals.specs.Table.{Told, Row, row, judged}
 use Rattle.registers.specs.Control.{pixel_rate, test_mode, interlaced}
 use Rattle.registers.specs.Geometry.{sub_position}
 use Rattle.registers.specs.Setting.{setting_of, display_on, border_on}
-use Rattle.registers.specs.Lowest.{lowest, fault_at}
+use Rattle.registers.specs.Lowest.{lowest}
+use Rattle.registers.specs.Needed.{missing}
 use Rattle.registers.specs.declared.record.Registers.{Registers}
 use Rattle.registers.specs.declared.setting.Setting.{Setting}
-use Rattle.registers.specs.declared.lowest.Fault.TheVariants.{Unwritten}
 
 -- HS ≤ BS ≤ DS < DE ≤ BE ≤ N.
 abbrev pub horizontal_rule : Setting → Bool
@@ -44,7 +44,7 @@ cursor_rule g s = not s.cursor || (eqb (sub_position g) 0 && leb s.vce.0 s.v.0)
 
 -- The lowest slot that is needed and unwritten, or 64.
 abbrev pub unwritten : Registers → ℕ
-unwritten g = lowest (fault_at g Unwritten) 64 0
+unwritten g = lowest (missing g) 64 0
 
 abbrev pub setting_table : Registers → List Row
 setting_table g =

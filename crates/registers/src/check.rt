@@ -13,7 +13,6 @@ ghost use Rattle.registers.specs.Check.{
   check_told,
 };
 
-use crate::lowest::{Fault, lowest};
 use crate::record::Registers;
 use crate::setting::Setting;
 use crate::units::Pixels;
@@ -87,13 +86,14 @@ impl Registers {
     }
 
     // The accepted setting, or the first refusal of 3 to 6, 19, 7 to 9.
-    #[tactic(auto, using(refusals::proofs::Told::handed_on), unfolding(crate::specs::Check::check_told))]
+    #[tactic(auto, using(refusals::proofs::Told::handed_on, crate::proofs::First::slot_given, crate::proofs::First::none_given), unfolding(crate::specs::Check::check_told))]
     pub(crate) fn check(self) -> Result<Setting, Refusal>
         ensures { says result ≡ check_told self }
     {
+        if let Some(slot) = self.lowest_missing() {
+            return Err(Refusal::Unwritten(4 * slot as u32));
+        }
         let s = self.setting();
-        let low = lowest(self, Fault::Unwritten);
-        refuse_if(low < Self::SLOTS, Refusal::Unwritten(4 * low as u32))?;
         refuse_if(self.is_test_mode(), Refusal::TestMode)?;
         refuse_if(self.is_interlaced(), Refusal::Interlace)?;
         refuse_if(!s.is_horizontal_right(), Refusal::Horizontal)?;

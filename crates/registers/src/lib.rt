@@ -8,7 +8,6 @@ pub mod colours;
 mod control;
 mod geometry;
 mod load;
-mod lowest;
 mod needed;
 pub mod record;
 pub mod setting;

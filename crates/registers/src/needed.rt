@@ -1,64 +1,38 @@
 // Needed registers, group by group: the lowest that is unwritten.
 ghost use Rattle.std.specs.Prelude.{◌≡◌, ◌<◌, ◌≤◌};
-ghost use Rattle.buffers.specs.Pick.{pick};
-ghost use Rattle.registers.specs.Lowest.{lowest};
+ghost use Rattle.registers.specs.Lowest.{lowest_slot};
 ghost use Rattle.registers.specs.Needed.{missing};
-ghost use Rattle.registers.specs.inner.Groups.{unwritten_among, missing_for};
+ghost use Rattle.registers.specs.inner.Groups.{unwritten_among};
 
 use crate::record::Registers;
-use buffers::least;
 
-// The lowest unwritten slot from that of the first address to that of the last, or 64.
-pub fn lowest_unwritten(written: &[bool; 64], first: usize, last: usize) -> usize
-    requires { (first ≤ last) × (last < 256) }
-    ensures { result ≡ lowest (unwritten_among written.now first last) 64 0 }
-{
-    let mut slot = first / 4;
-    while slot <= last / 4 {
-        if !written[slot] {
-            return slot;
+impl Registers {
+    // The lowest unwritten slot from that of the first address to that of the last.
+    pub(crate) fn lowest_unwritten(&self, first: usize, last: usize) -> Option<usize>
+        requires { (first ≤ last) × (last < 256) }
+        ensures { result ≡ lowest_slot (unwritten_among self.now.written first last) }
+    {
+        (first / 4..last / 4 + 1).find(|slot| !self.written[*slot])
+    }
+
+    // The lowest slot that is needed and unwritten. If control is unwritten, only it is reported.
+    #[tactic(auto, using(crate::proofs::Missing::missing_control, crate::proofs::Missing::missing_groups))]
+    pub(crate) fn lowest_missing(&self) -> Option<usize>
+        ensures { result ≡ lowest_slot (missing self.now) }
+    {
+        if !self.written[Self::CONTROL / 4] {
+            return Some(Self::CONTROL / 4);
         }
-        slot += 1;
+        // with the cursor on, its colours behind the border's, and its start behind the other horizontal values
+        let (colours, across) = if self.cursor_on() {
+            (Self::CURSOR_3, Self::HCSR)
+        } else {
+            (Self::BORDER, Self::HBER)
+        };
+        let entries = usize::from(self.entries_in_use());
+        self.lowest_unwritten(Self::PALETTE_0, 4 * (entries - 1))
+            .or(self.lowest_unwritten(Self::BORDER, colours))
+            .or(self.lowest_unwritten(Self::HCR, across))
+            .or(self.lowest_unwritten(Self::VCR, Self::VBER))
     }
-    Registers::SLOTS
-}
-
-// One slot, where it is at fault, or 64.
-pub fn slot_if(fault: bool, slot: usize) -> usize
-    ensures { result ≡ pick fault slot 64 }
-{
-    if fault {
-        return slot;
-    }
-    Registers::SLOTS
-}
-
-// The lowest slot that is missing where control is written, or 64.
-fn lowest_needed(written: &[bool; 64], entries: usize, cursor: bool) -> usize
-    requires { (1 ≤ entries) × (entries ≤ 16) }
-    ensures { result ≡ lowest (missing_for written.now entries cursor) 64 0 }
-{
-    let palette = lowest_unwritten(written, Registers::PALETTE_0, 4 * (entries - 1));
-    let border = slot_if(!written[Registers::BORDER / 4], Registers::BORDER / 4);
-    let across = lowest_unwritten(written, Registers::HCR, Registers::HBER);
-    let down = lowest_unwritten(written, Registers::VCR, Registers::VBER);
-    let low = least(least(least(palette, border), across), down);
-    if !cursor {
-        return low;
-    }
-    let start = slot_if(!written[Registers::HCSR / 4], Registers::HCSR / 4);
-    let pens = lowest_unwritten(written, Registers::CURSOR_1, Registers::CURSOR_3);
-    least(low, least(start, pens))
-}
-
-// The lowest slot that is needed and unwritten, or 64. If control is unwritten, only it is reported.
-pub fn lowest_missing(g: Registers) -> usize
-    ensures { result ≡ lowest (missing g) 64 0 }
-{
-    if !g.written[Registers::CONTROL / 4] {
-        return Registers::CONTROL / 4;
-    }
-    let entries = g.entries_in_use() as usize;
-    let cursor = g.cursor_on();
-    lowest_needed(&g.written, entries, cursor)
 }

@@ -2,11 +2,7 @@
 use Rattle.std.specs.Prelude.{ℕ, Bool, false, ◌&&◌, not, List, eqb, get_or}
 use Rattle.buffers.specs.Bits.{bits}
 use Rattle.registers.specs.Addresses.{STEREO}
-use Rattle.registers.specs.Needed.{among, needed_for}
-
--- Missing where control is written.
-abbrev pub missing_for : List Bool → ℕ → Bool → ℕ → Bool
-missing_for written entries cursor slot = needed_for entries cursor slot && not (get_or written slot false)
+use Rattle.registers.specs.Needed.{among}
 
 -- Unwritten, of the slots from that of the first address to that of the last.
 abbrev pub unwritten_among : List Bool → ℕ → ℕ → ℕ → Bool
