@@ -7,6 +7,7 @@ use lib.ListN.{length}
 use native.Mathlib.Omega.{arith}
 use Rattle.refusals.specs.Table.{Told, given, refused, and_then}
 use Rattle.refusals.proofs.Tables.{never, and_then_judged}
+use Rattle.refusals.proofs.Told.{handed_on}
 use Rattle.registers.specs.Load.{applied, load_table, load_told, leading}
 use Rattle.registers.specs.Setting.{setting_of}
 use Rattle.registers.specs.Check.{setting_table, check_told}
@@ -87,3 +88,8 @@ module _ (g : Registers) (xs ys : List ℕ) (s : Setting) where
   accept_whole few first e =
       let p = accepted_both (applied g xs) ys s e in
       both_accepted g (xs ++ ys) s (halves_load xs ys few first p.0) (rw (applied_halves g xs ys) p.1)
+
+-- the laws that the two calls stand on
+pub ruleset load_and_check = (handed_on, accept_then, checked_as_it_stands, handed_as_it_stands)
+
+pub ruleset load_and_check_sound = (handed_on, accept_sound_then)

@@ -3,7 +3,7 @@ use Prim.Native.Nat.{ℕ, zero, suc, ◌+◌, ◌-◌, ◌<◌, ◌≤◌}
 use mathlib.Core.Path.{◌≡◌, refl, sym, ◌∙◌, ap}
 use mathlib.Core.Bool.{Bool, true, false}
 use mathlib.Core.Logic.{◌⊎◌, inl, inr}
-use Rattle.std.specs.Prelude.{Option, Some, None}
+use Rattle.std.specs.Prelude.{Some, None}
 use lib.Dec.{ltb}
 use borrow.Author.Tests.{ltb-true, lt-ltb}
 use native.Mathlib.Nat.{eq-or-lt_of_le}
@@ -85,3 +85,6 @@ module _ (test : ℕ → Bool) where
 
   pub slot_is_none : lowest test 64 0 ≡ 64 → lowest_slot test ≡ None
   slot_is_none e = rw e
+
+-- what a search for the lowest slot gives
+pub ruleset slots = (slot_given, none_given)

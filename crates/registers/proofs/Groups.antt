@@ -153,7 +153,7 @@ module _ (first last : ℕ) (test : ℕ → Bool) where
   -- the lowest of them, as a search finds it
   pub first_slot : last < 256 → (r : Option ℕ)
       → MatchOption r ((k : ℕ) → first / 4 ≤ k → k < last / 4 + 1 → test k ≡ false)
-          (λ i. (first / 4 ≤ i) × (i < last / 4 + 1) × (test i ≡ true) × ((k : ℕ) → first / 4 ≤ k → k < i → test k ≡ false))
+      (λ i. (first / 4 ≤ i) × (i < last / 4 + 1) × (test i ≡ true) × ((k : ℕ) → first / 4 ≤ k → k < i → test k ≡ false))
       → r ≡ lowest_slot group
   first_slot below None fails = sym (slot_is_none group (lowest_none group 64 0 (λ j i. go j (lt_or_le j (first / 4)) (lt_or_le (last / 4) j))))
     where
@@ -162,7 +162,8 @@ module _ (first last : ℕ) (test : ℕ → Bool) where
       go j (inr h) (inl l) = group_after j l
       go j (inr h) (inr l) = rw (fails j h (omega arith), and_false)
   first_slot below (Some i) p =
-      sym (slot_is group i (lowest_skip group 64 i (omega arith) (λ j h. go j h (lt_or_le j (first / 4))) ∙ lowest_here group 64 i (omega arith) here) (omega arith))
+      let skip = lowest_skip group 64 i (omega arith) (λ j h. go j h (lt_or_le j (first / 4))) in
+      sym (slot_is group i (skip ∙ lowest_here group 64 i (omega arith) here) (omega arith))
     where
       here : group i ≡ true
       here = let h : i ≤ last / 4 = omega arith in rw (le-leb (first / 4) i p.0, le-leb i (last / 4) h, p.2)

@@ -1,5 +1,6 @@
 pub mod Reserved
 pub mod Lists
+pub mod Order
 pub mod First
 pub mod Groups
 pub mod Missing

@@ -7,7 +7,7 @@ use native.Mathlib.Omega.{arith}
 use lib.ListN.{get_or}
 use lib.Dec.{ltb, eqb}
 use borrow.Author.Tests.{eqb-true, ne_eqb}
-use Rattle.std.specs.Prelude.{Option, Some, None}
+use Rattle.std.specs.Prelude.{Some, None}
 use Rattle.std.specs.Option.{option_or}
 use Rattle.std.proofs.lemmas.Bool.Decides.{nat_tests}
 use Rattle.buffers.specs.Pick.{pick}
@@ -52,7 +52,11 @@ module _ (w : List Bool) where
         (lowest_slot (unwritten_among w HCR across))) (lowest_slot (unwritten_among w VCR VBER))
     first_of_four p q r =
         slot_or (λ j. unwritten_among w 0 entry j || unwritten_among w BORDER colours j || unwritten_among w HCR across j) (unwritten_among w VCR VBER) 40
-        (λ j h. rw (unwritten_after 0 entry 40 (omega arith) j h, unwritten_after BORDER colours 40 (omega arith) j h, unwritten_after HCR across 40 (omega arith) j h))
+        (λ j h. rw (
+          unwritten_after 0 entry 40 (omega arith) j h,
+          unwritten_after BORDER colours 40 (omega arith) j h,
+          unwritten_after HCR across 40 (omega arith) j h,
+        ))
         (unwritten_before VCR VBER 40 (omega arith))
         ∙ ap (λ o. option_or o (lowest_slot (unwritten_among w VCR VBER)))
         (slot_or (λ j. unwritten_among w 0 entry j || unwritten_among w BORDER colours j) (unwritten_among w HCR across) 32

@@ -10,7 +10,7 @@ use refusals::Refusal;
 
 impl Registers {
     // The words applied to this record, and what they leave checked: 1, 2, then 3 to 6, 19, 7 to 9. On a refusal the record stays as it was.
-    #[tactic(auto, using(refusals::proofs::Told::handed_on, crate::proofs::Accepting::accept_then, crate::proofs::Accepting::checked_as_it_stands, crate::proofs::Accepting::handed_as_it_stands))]
+    #[tactic(auto, using(crate::proofs::Accepting::load_and_check))]
     pub fn load_and_check(&mut self, words: &[u32]) -> Result<Setting, Refusal>
         ensures told { says result ≡ accept_told self.old words.now }
         ensures left { self.new ≡ handed_back (accept_told self.old words.now) self.old words.now }
@@ -27,7 +27,7 @@ impl Registers {
     }
 
     // The same for sound alone: 1, 2, then 3, 10.
-    #[tactic(auto, using(refusals::proofs::Told::handed_on, crate::proofs::Accepting::accept_sound_then))]
+    #[tactic(auto, using(crate::proofs::Accepting::load_and_check_sound))]
     pub fn load_and_check_sound(&mut self, words: &[u32]) -> Result<(), Refusal>
         ensures told { says result ≡ accept_sound_told self.old words.now }
         ensures left { self.new ≡ handed_back (accept_sound_told self.old words.now) self.old words.now }

@@ -22,7 +22,7 @@ use refusals::{Refusal, refuse_if};
 fn odd_bits(width: Pixels, bits: u8) -> u32
     ensures { result ≡ width.0 * bits % 32 }
 {
-    (width.0 as u32) * (bits as u32) % 32
+    u32::from(width.0) * u32::from(bits) % 32
 }
 
 impl Setting {
@@ -30,35 +30,35 @@ impl Setting {
     fn is_horizontal_right(self) -> bool
         ensures { result ≡ horizontal_rule self }
     {
-        (self.hs.0 <= self.bs.0)
-            & (self.bs.0 <= self.ds.0)
-            & (self.ds.0 < self.de.0)
-            & (self.de.0 <= self.be.0)
-            & (self.be.0 <= self.n.0)
+        (self.hs <= self.bs)
+            & (self.bs <= self.ds)
+            & (self.ds < self.de)
+            & (self.de <= self.be)
+            & (self.be <= self.n)
     }
 
     // VS ≤ VBS ≤ VDS < VDE ≤ VBE ≤ V
     fn is_display_right(self) -> bool
         ensures { result ≡ display_rule self }
     {
-        (self.vs.0 <= self.vbs.0)
-            & (self.vbs.0 <= self.vds.0)
-            & (self.vds.0 < self.vde.0)
-            & (self.vde.0 <= self.vbe.0)
-            & (self.vbe.0 <= self.v.0)
+        (self.vs <= self.vbs)
+            & (self.vbs <= self.vds)
+            & (self.vds < self.vde)
+            & (self.vde <= self.vbe)
+            & (self.vbe <= self.v)
     }
 
     // VS ≤ VBS < VBE ≤ V
     fn is_border_right(self) -> bool
         ensures { result ≡ border_rule self }
     {
-        (self.vs.0 <= self.vbs.0) & (self.vbs.0 < self.vbe.0) & (self.vbe.0 <= self.v.0)
+        (self.vs <= self.vbs) & (self.vbs < self.vbe) & (self.vbe <= self.v)
     }
 
     fn is_vertical_right(self) -> bool
         ensures { result ≡ vertical_rule self }
     {
-        (self.vs.0 <= self.v.0)
+        (self.vs <= self.v)
             & (self.is_display_right()
                 | (!self.display_on() & (!self.border_on() | self.is_border_right())))
     }
@@ -76,17 +76,17 @@ impl Registers {
     fn is_sync_right(self, s: Setting) -> bool
         ensures { result ≡ sync_rule self s }
     {
-        !s.cursor | (5 * self.pixel_rate() as u32 <= 6 * s.hs.0 as u32)
+        !s.cursor | (5 * u32::from(self.pixel_rate()) <= 6 * u32::from(s.hs.0))
     }
 
     fn is_cursor_right(self, s: Setting) -> bool
         ensures { result ≡ cursor_rule self s }
     {
-        !s.cursor | ((self.sub_position() == 0) & (s.vce.0 <= s.v.0))
+        !s.cursor | ((self.sub_position() == 0) & (s.vce <= s.v))
     }
 
     // The accepted setting, or the first refusal of 3 to 6, 19, 7 to 9.
-    #[tactic(auto, using(refusals::proofs::Told::handed_on, crate::proofs::First::slot_given, crate::proofs::First::none_given), unfolding(crate::specs::Check::check_told))]
+    #[tactic(auto, using(refusals::proofs::Told::handed_on, crate::proofs::First::slots), unfolding(crate::specs::Check::check_told))]
     pub(crate) fn check(self) -> Result<Setting, Refusal>
         ensures { says result ≡ check_told self }
     {

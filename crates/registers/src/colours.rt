@@ -9,7 +9,7 @@ impl Registers {
     pub fn palette(self, entry: u8) -> u16
         ensures { result ≡ palette_of self entry }
     {
-        let slot = (entry % 16) as usize;
+        let slot = usize::from(entry % 16);
         (self.values[slot] % 0x2000) as u16
     }
 
@@ -23,7 +23,7 @@ impl Registers {
     pub fn cursor_colour(self, pair: u8) -> u16
         ensures { result ≡ cursor_of self pair }
     {
-        let slot = Self::BORDER / 4 + (pair % 4) as usize;
+        let slot = Self::BORDER / 4 + usize::from(pair % 4);
         (self.values[slot] % 0x2000) as u16
     }
 }

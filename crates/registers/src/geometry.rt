@@ -54,6 +54,6 @@ impl Registers {
     {
         let start = self.rasters(Self::VCSR);
         let end = self.rasters(Self::VCER);
-        self.written[Self::VCSR / 4] & self.written[Self::VCER / 4] & (start.0 < end.0)
+        self.written[Self::VCSR / 4] & self.written[Self::VCER / 4] & (start < end)
     }
 }

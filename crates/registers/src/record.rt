@@ -14,6 +14,7 @@ pub struct Registers {
 
 // Whether no register has the address 4 · slot: those between the cursor's palette and the stereo registers, between the sound frequency
 // and control, and beyond.
+#[tactic(auto, using(crate::proofs::Reserved::gaps_reserved))]
 pub fn is_reserved(slot: u32) -> bool
     ensures { result ≡ reserved slot }
 {
@@ -28,10 +29,7 @@ impl Registers {
     pub fn of_slots(values: [u32; 64], written: [bool; 64]) -> Registers
         ensures { result ≡ registers_by values written }
     {
-        Registers {
-            values: values,
-            written: written,
-        }
+        Registers { values, written }
     }
 
     // A fresh record: nothing is written.
@@ -42,6 +40,7 @@ impl Registers {
     }
 
     // One word stored: the record with that register changed, or as it came where the address is reserved.
+    #[tactic(auto, unfolding(crate::specs::Record::stored_of))]
     pub fn store(mut self, word: u32) -> Registers
         ensures { result ≡ stored_of self word }
     {

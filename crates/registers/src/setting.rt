@@ -5,7 +5,7 @@ ghost use Rattle.registers.specs.Setting.{setting_of, display_on, border_on, vid
 use crate::record::Registers;
 use crate::units::{Pixels, Rasters};
 
-#[derive(Clone, Copy)]
+#[derive(Clone, Copy, PartialEq, Eq)]
 pub struct Setting {
     pub n: Pixels,
     pub hs: Pixels,
@@ -31,26 +31,27 @@ pub struct Setting {
 fn words_for(width: Pixels, height: Rasters, bits: u8) -> u64
     ensures { result ≡ width.0 * height.0 * bits / 32 }
 {
-    (width.0 as u64) * (height.0 as u64) * (bits as u64) / 32
+    u64::from(width.0) * u64::from(height.0) * u64::from(bits) / 32
 }
 
 impl Setting {
     pub fn display_on(self) -> bool
         ensures { result ≡ display_on self }
     {
-        self.vds.0 < self.vde.0
+        self.vds < self.vde
     }
 
     pub fn border_on(self) -> bool
         ensures { result ≡ border_on self }
     {
-        self.vbs.0 < self.vbe.0
+        self.vbs < self.vbe
     }
 
+    #[tactic(auto, unfolding(crate::specs::Setting::video_words))]
     pub fn video_words(self) -> u64
         ensures { result ≡ video_words self }
     {
-        if self.vde.0 <= self.vds.0 {
+        if !self.display_on() {
             return 0;
         }
         words_for(
@@ -60,11 +61,12 @@ impl Setting {
         )
     }
 
+    #[tactic(auto, unfolding(crate::specs::Setting::cursor_words))]
     pub fn cursor_words(self) -> u64
         ensures { result ≡ cursor_words self }
     {
         if self.cursor {
-            return 2 * (self.vce.height_from(self.vcs).0 as u64);
+            return 2 * u64::from(self.vce.height_from(self.vcs).0);
         }
         0
     }
@@ -72,6 +74,7 @@ impl Setting {
 
 impl Registers {
     // The setting that the record describes, not yet judged.
+    #[tactic(auto, unfolding(crate::specs::Setting::setting_of))]
     pub fn setting(self) -> Setting
         ensures { result ≡ setting_of self }
     {

@@ -8,7 +8,7 @@ use refusals::Refusal;
 
 impl Registers {
     // Whether sound may be played: 3 or 10 with the lowest address, else done.
-    #[tactic(auto, using(crate::proofs::First::slot_given, crate::proofs::First::none_given), unfolding(crate::specs::Sound::sound_told))]
+    #[tactic(auto, using(crate::proofs::First::slots), unfolding(crate::specs::Sound::sound_told))]
     pub fn check_sound(self) -> Result<(), Refusal>
         ensures { says result ≡ sound_told self }
     {

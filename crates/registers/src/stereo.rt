@@ -26,8 +26,9 @@ impl Registers {
     pub(crate) fn lowest_sound_missing(&self) -> Option<usize>
         ensures { result ≡ lowest_slot (sound_missing self.now) }
     {
+        let frequency = self.lowest_unwritten(Self::SOUND_FREQUENCY, Self::SOUND_FREQUENCY);
         self.lowest_unwritten(Self::STEREO_7, Self::STEREO_6)
-            .or(self.lowest_unwritten(Self::SOUND_FREQUENCY, Self::SOUND_FREQUENCY))
+            .or(frequency)
     }
 
     // The lowest slot with a stereo value 0.

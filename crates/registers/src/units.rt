@@ -3,15 +3,15 @@ ghost use Rattle.std.specs.Prelude.{◌≡◌, ◌-◌};
 ghost use Rattle.registers.specs.Units.{pixels_of, rasters_of};
 
 // A horizontal register's value: ten bits that count pairs of pixels.
-#[derive(Clone, Copy)]
+#[derive(Clone, Copy, PartialEq, Eq)]
 pub struct Pairs(pub u16);
 
 // A pixel position in a raster, or a width in pixels.
-#[derive(Clone, Copy)]
+#[derive(Clone, Copy, PartialEq, Eq, PartialOrd, Ord)]
 pub struct Pixels(pub u16);
 
 // A raster's number in a frame, or a count of rasters.
-#[derive(Clone, Copy)]
+#[derive(Clone, Copy, PartialEq, Eq, PartialOrd, Ord)]
 pub struct Rasters(pub u16);
 
 impl Pairs {
@@ -19,7 +19,7 @@ impl Pairs {
     pub fn pixels(self, offset: u8) -> Pixels
         ensures { result ≡ pixels_of self.0 offset }
     {
-        Pixels(2 * (self.0 % 1024) + offset as u16)
+        Pixels(2 * (self.0 % 1024) + u16::from(offset))
     }
 }
 
@@ -28,10 +28,7 @@ impl Pixels {
     pub fn width_from(self, start: Pixels) -> Pixels
         ensures { result.0 ≡ self.0 - start.0 }
     {
-        if self.0 < start.0 {
-            return Pixels(0);
-        }
-        Pixels(self.0 - start.0)
+        Pixels(self.0.saturating_sub(start.0))
     }
 }
 
@@ -40,10 +37,7 @@ impl Rasters {
     pub fn height_from(self, start: Rasters) -> Rasters
         ensures { result.0 ≡ self.0 - start.0 }
     {
-        if self.0 < start.0 {
-            return Rasters(0);
-        }
-        Rasters(self.0 - start.0)
+        Rasters(self.0.saturating_sub(start.0))
     }
 
     // The count that a vertical register's value stands for: one more than its ten bits.
