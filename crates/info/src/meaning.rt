@@ -1,81 +1,104 @@
 // What a register's data means. The record holds it, and the depth in force.
-use crate::line::Line;
-use crate::terms::{put_colour, put_control, put_rate, put_stereo};
+use crate::terms::{Colour, Control, Count, Rate, Stereo};
 use colours::apart::Apart;
 use registers::record::Registers;
-use registers::setting::Setting;
+use registers::units::{Pixels, Rasters};
+use std::fmt;
 
-// What the timing registers give, 80H to BCH; HIR gives nothing here.
-const PLACES: [u8; 64] = *b"N   HS  BS  DS  DE  BE  CX      V   VS  VBS VDS VDE VBE VCS VCE ";
-
-// These places in pixels, and from VCR on in rasters.
-fn places(s: Setting) -> [u16; 16] {
-    [
-        s.n.0, s.hs.0, s.bs.0, s.ds.0, s.de.0, s.be.0, s.cx.0, 0, s.v.0, s.vs.0, s.vbs.0, s.vds.0, s
-            .vde
-            .0, s.vbe.0, s.vcs.0, s.vce.0,
-    ]
+// A place in the frame by its name in the paper, in pixels or in rasters.
+#[derive(Clone, Copy)]
+enum Place<'a> {
+    Across(&'a str, Pixels),
+    Down(&'a str, Rasters),
 }
 
-fn put_place(line: Line, k: usize, place: u16) -> Line {
-    let line = line.entry(&PLACES, k).text(b" = ");
-    if k < 8 {
-        return line.count(place as usize, b" pixel");
-    }
-    line.count(place as usize, b" raster")
-}
-
-// An end of the display, which only a depth places.
-fn put_display(line: Line, k: usize, place: u16, has_depth: bool) -> Line {
-    if has_depth {
-        return put_place(line, k, place);
-    }
-    line.entry(&PLACES, k)
-        .text(b" needs the depth, and control is never written")
-}
-
-fn put_cursor_start(line: Line, k: usize, place: u16, sub_position: u32) -> Line {
-    let line = put_place(line, k, place);
-    if sub_position == 0 {
-        return line;
-    }
-    line.text(b", sub-position ").number(sub_position as u64)
-}
-
-fn put_timing(line: Line, g: Registers, address: usize) -> Line {
-    let k = address / 4 % 16;
-    let place = places(g.setting())[k];
-    match address {
-        Registers::HDSR | Registers::HDER => put_display(
-            line,
-            k,
-            place,
-            g.written[Registers::CONTROL / 4],
-        ),
-        Registers::HCSR => put_cursor_start(line, k, place, g.sub_position()),
-        Registers::HIR => line.text(b"used with interlace only"),
-        _ => put_place(line, k, place),
+impl fmt::Display for Place<'_> {
+    fn fmt<W: fmt::Write>(&self, f: &mut fmt::Formatter<W>) -> fmt::Result {
+        match *self {
+            Place::Across(name, x) => write!(f, "{name} = {}", Count(usize::from(x.0), "pixel")),
+            Place::Down(name, y) => write!(f, "{name} = {}", Count(usize::from(y.0), "raster")),
+        }
     }
 }
 
-pub fn put_meaning(line: Line, g: Registers, address: usize) -> Line {
-    match address {
-        Registers::PALETTE_0..=Registers::PALETTE_15 => put_colour(
-            line,
-            Apart::of(g.palette((address / 4) as u8)),
-        ),
-        Registers::BORDER => put_colour(line, Apart::of(g.border())),
-        Registers::CURSOR_1..=Registers::CURSOR_3 => put_colour(
-            line,
-            Apart::of(g.cursor_colour((address / 4 - 16) as u8)),
-        ),
-        Registers::STEREO_7..=Registers::STEREO_6 => put_stereo(
-            line,
-            g.stereo(((address / 4 - 17) % 8) as u8),
-        ),
-        Registers::HCR..=Registers::VCER => put_timing(line, g, address),
-        Registers::SOUND_FREQUENCY => put_rate(line, g.sound_frequency()),
-        Registers::CONTROL => put_control(line, g),
-        _ => line.text(b"no register"),
+// What the register at an address gives.
+#[derive(Clone, Copy)]
+pub struct Meaning<'a> {
+    pub registers: &'a Registers,
+    pub address: usize,
+}
+
+impl Meaning<'_> {
+    // What a timing register places, but for HIR.
+    fn place(&self) -> Place<'static> {
+        let s = self.registers.setting();
+        match self.address {
+            Registers::HCR => Place::Across("N", s.n),
+            Registers::HSWR => Place::Across("HS", s.hs),
+            Registers::HBSR => Place::Across("BS", s.bs),
+            Registers::HDSR => Place::Across("DS", s.ds),
+            Registers::HDER => Place::Across("DE", s.de),
+            Registers::HBER => Place::Across("BE", s.be),
+            Registers::HCSR => Place::Across("CX", s.cx),
+            Registers::VCR => Place::Down("V", s.v),
+            Registers::VSWR => Place::Down("VS", s.vs),
+            Registers::VBSR => Place::Down("VBS", s.vbs),
+            Registers::VDSR => Place::Down("VDS", s.vds),
+            Registers::VDER => Place::Down("VDE", s.vde),
+            Registers::VBER => Place::Down("VBE", s.vbe),
+            Registers::VCSR => Place::Down("VCS", s.vcs),
+            _ => Place::Down("VCE", s.vce),
+        }
+    }
+
+    // A timing register, HCR to VCER.
+    fn timing<W: fmt::Write>(&self, f: &mut fmt::Formatter<W>) -> fmt::Result {
+        let g = self.registers;
+        let has_depth = g.written[Registers::CONTROL / 4];
+        match self.address {
+            Registers::HDSR if !has_depth => f.write_str(
+                "DS needs the depth, and control is never written",
+            ),
+            Registers::HDER if !has_depth => f.write_str(
+                "DE needs the depth, and control is never written",
+            ),
+            Registers::HCSR if g.sub_position() != 0 => write!(
+                f,
+                "{}, sub-position {}",
+                self.place(),
+                g.sub_position()
+            ),
+            Registers::HIR => f.write_str("used with interlace only"),
+            _ => write!(f, "{}", self.place()),
+        }
+    }
+}
+
+impl fmt::Display for Meaning<'_> {
+    fn fmt<W: fmt::Write>(&self, f: &mut fmt::Formatter<W>) -> fmt::Result {
+        let g = self.registers;
+        let slot = self.address / 4;
+        match self.address {
+            Registers::PALETTE_0..=Registers::PALETTE_15 => write!(
+                f,
+                "{}",
+                Colour(Apart::of(g.palette(slot as u8)))
+            ),
+            Registers::BORDER => write!(f, "{}", Colour(Apart::of(g.border()))),
+            Registers::CURSOR_1..=Registers::CURSOR_3 => write!(
+                f,
+                "{}",
+                Colour(Apart::of(g.cursor_colour((slot - 16) as u8)))
+            ),
+            Registers::STEREO_7..=Registers::STEREO_6 => write!(
+                f,
+                "{}",
+                Stereo(g.stereo(((slot - 17) % 8) as u8))
+            ),
+            Registers::HCR..=Registers::VCER => self.timing(f),
+            Registers::SOUND_FREQUENCY => write!(f, "{}", Rate(g.sound_frequency())),
+            Registers::CONTROL => write!(f, "{}", Control(g)),
+            _ => f.write_str("no register"),
+        }
     }
 }

@@ -1,35 +1,52 @@
 // The registers' names, by address.
-use crate::line::Line;
 use registers::record::Registers;
+use std::fmt;
 
 // The timing registers, 80H to BCH.
-const TIMING: [u8; 64] = *b"HCR HSWRHBSRHDSRHDERHBERHCSRHIR VCR VSWRVBSRVDSRVDERVBERVCSRVCER";
+const TIMING: [&str; 16] = [
+    "HCR", "HSWR", "HBSR", "HDSR", "HDER", "HBER", "HCSR", "HIR", "VCR", "VSWR", "VBSR", "VDSR",
+    "VDER", "VBER", "VCSR", "VCER",
+];
 
-pub fn put_name(line: Line, address: usize) -> Line {
-    match address {
-        Registers::PALETTE_0..=Registers::PALETTE_15 => line
-            .text(b"palette ")
-            .number((address / 4) as u64),
-        Registers::BORDER => line.text(b"border"),
-        Registers::CURSOR_1..=Registers::CURSOR_3 => line
-            .text(b"cursor ")
-            .number((address / 4 - 16) as u64),
-        Registers::STEREO_7 => line.text(b"stereo 7"),
-        Registers::STEREO_0..=Registers::STEREO_6 => line
-            .text(b"stereo ")
-            .number((address / 4 - 25) as u64),
-        Registers::HCR..=Registers::VCER => line.entry(&TIMING, address / 4 - 32),
-        Registers::SOUND_FREQUENCY => line.text(b"sound frequency"),
-        Registers::CONTROL => line.text(b"control"),
-        _ => line.text(b"reserved"),
+// The name of the register at an address.
+#[derive(Clone, Copy)]
+pub struct Name(pub usize);
+
+impl fmt::Display for Name {
+    fn fmt<W: fmt::Write>(&self, f: &mut fmt::Formatter<W>) -> fmt::Result {
+        let slot = self.0 / 4;
+        match self.0 {
+            Registers::PALETTE_0..=Registers::PALETTE_15 => write!(f, "palette {slot}"),
+            Registers::BORDER => f.write_str("border"),
+            Registers::CURSOR_1..=Registers::CURSOR_3 => write!(f, "cursor {}", slot - 16),
+            Registers::STEREO_7 => f.write_str("stereo 7"),
+            Registers::STEREO_0..=Registers::STEREO_6 => write!(f, "stereo {}", slot - 25),
+            Registers::HCR..=Registers::VCER => f.write_str(TIMING[slot - 32]),
+            Registers::SOUND_FREQUENCY => f.write_str("sound frequency"),
+            Registers::CONTROL => f.write_str("control"),
+            _ => f.write_str("reserved"),
+        }
+    }
+}
+
+// An address as the data sheet writes it, as 80H.
+#[derive(Clone, Copy)]
+pub struct Address(pub usize);
+
+impl fmt::Display for Address {
+    fn fmt<W: fmt::Write>(&self, f: &mut fmt::Formatter<W>) -> fmt::Result {
+        let address = self.0;
+        write!(f, "{address:02X}H")
     }
 }
 
 // A register's name, and its address behind it.
-pub fn put_register(line: Line, address: u32) -> Line {
-    let address = address as usize;
-    put_name(line, address)
-        .text(b" (")
-        .address(address)
-        .text(b")")
+#[derive(Clone, Copy)]
+pub struct Named(pub u32);
+
+impl fmt::Display for Named {
+    fn fmt<W: fmt::Write>(&self, f: &mut fmt::Formatter<W>) -> fmt::Result {
+        let address = self.0 as usize;
+        write!(f, "{} ({})", Name(address), Address(address))
+    }
 }

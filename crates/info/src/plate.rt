@@ -1,133 +1,94 @@
 // A plate taken apart, judged and described.
-ghost use Rattle.std.specs.Prelude.{◌≤◌, length};
-
-use crate::line::Line;
 use crate::summary::print_setting;
-use crate::verdicts::print_verdict;
+use crate::terms::Count;
+use crate::verdicts::Verdict;
 use crate::words::print_words;
 use marks::answer::Marks;
 use refusals::{Answer, Refusal};
 use registers::check::Checked;
 use registers::record::Registers;
-use sheets::Parts;
-use sheets::input::take_input;
+use sheets::sheet::Sheet;
+use std::io;
 
 // The threshold of the mark count.
 const THRESHOLD: u8 = 128;
 
-// Both verdicts on a file that is no plate.
-fn print_no_plate(rt: &(impl Print + Eprint), head: Line, why: Refusal) -> bool {
-    head.print(rt)
-        && print_verdict(rt, b"picture", Answer::Refused(why), &[])
-        && print_verdict(rt, b"sound", Answer::Refused(why), &[])
-}
-
-fn print_marks(rt: &(impl Print + Eprint), count: u32) -> bool {
-    Line::new()
-        .text(b"marks: ")
-        .number(count as u64)
-        .text(b" at threshold ")
-        .number(THRESHOLD as u64)
-        .print(rt)
+fn print_verdict(
+    rt: &impl Print,
+    judged: &str,
+    answer: Result<(), Refusal>,
+    words: &[u32],
+) -> io::Result<()> {
+    let verdict = Verdict {
+        judged,
+        answer,
+        words,
+    };
+    println!(rt; "{verdict}")
 }
 
 // The mark count of a picture whose setting is accepted, and its verdict.
-fn print_counted(
-    rt: &(impl Print + Eprint),
-    g: Registers,
-    words: &[u32],
-    video: &[u32],
-    cursor: &[u32],
-) -> bool {
-    match marks::marks(g, video, cursor, THRESHOLD) {
-        Marks::Count(count) => print_marks(rt, count)
-            && print_verdict(rt, b"picture", Answer::Done, words),
-        Marks::Refused(why) => print_verdict(rt, b"picture", Answer::Refused(why), words),
+fn print_counted(rt: &impl Print, g: Registers, sheet: Sheet<'_>) -> io::Result<()> {
+    match marks::marks(g, sheet.video, sheet.cursor, THRESHOLD) {
+        Marks::Count(count) => {
+            println!(rt; "marks: {count} at threshold {THRESHOLD}")?;
+            print_verdict(rt, "picture", Ok(()), sheet.registers)
+        }
+        Marks::Refused(why) => print_verdict(rt, "picture", Err(why), sheet.registers),
     }
 }
 
 // The register words loaded and checked: the setting and what becomes of the picture, or the verdict alone.
-fn print_picture(rt: &(impl Print + Eprint), words: &[u32], video: &[u32], cursor: &[u32]) -> bool {
-    let verdict = Registers::new().load_and_check(words);
+fn print_picture(rt: &impl Print, sheet: Sheet<'_>) -> io::Result<()> {
+    let verdict = Registers::new().load_and_check(sheet.registers);
     let g = verdict.registers;
-    let checked = verdict.checked;
-    match checked {
-        Checked::Refused(why) => print_verdict(rt, b"picture", Answer::Refused(why), words),
+    match verdict.checked {
+        Checked::Refused(why) => print_verdict(rt, "picture", Err(why), sheet.registers),
         Checked::Accepted(s) => {
-            print_setting(rt, g, s, video.len(), cursor.len())
-                && print_counted(rt, g, words, video, cursor)
+            print_setting(rt, &g, s, sheet)?;
+            print_counted(rt, g, sheet)
         }
     }
 }
 
-fn print_sound(rt: &(impl Print + Eprint), words: &[u32]) -> bool {
-    let loaded = Registers::new().load_and_check_sound(words);
-    let answer = loaded.answer;
-    print_verdict(rt, b"sound", answer, words)
+fn print_sound(rt: &impl Print, sheet: Sheet<'_>) -> io::Result<()> {
+    match Registers::new()
+        .load_and_check_sound(sheet.registers)
+        .answer
+    {
+        Answer::Refused(why) => print_verdict(rt, "sound", Err(why), sheet.registers),
+        Answer::Done => print_verdict(rt, "sound", Ok(()), sheet.registers),
+    }
 }
 
-// The length of a plate file, and how many words each section has.
-fn print_head(
-    rt: &(impl Print + Eprint),
-    bytes: usize,
-    registers: usize,
-    video: usize,
-    cursor: usize,
-    sound: usize,
-) -> bool {
-    Line::new()
-        .count(bytes, b" byte")
-        .text(b": ")
-        .count(registers, b" register word")
-        .text(b", ")
-        .count(video, b" video word")
-        .text(b", ")
-        .count(cursor, b" cursor word")
-        .text(b", ")
-        .count(sound, b" sound word")
-        .print(rt)
-}
-
-// A plate file by its parts.
-fn print_parts(rt: &(impl Print + Eprint), bytes: usize, parts: Parts, words: &[u32]) -> bool
-    requires { (parts.video ≤ parts.cursor) × (parts.cursor ≤ parts.sound) × (parts.sound ≤ parts.end) × (parts.end ≤ length words.now) }
-{
-    let video = parts.video;
-    let cursor = parts.cursor;
-    let sound = parts.sound;
-    print_head(
-        rt,
-        bytes,
-        video,
-        cursor - video,
-        sound - cursor,
-        parts.end - sound,
-    ) && print_words(rt, &words[0..video])
-        && print_picture(
-            rt,
-            &words[0..video],
-            &words[video..cursor],
-            &words[cursor..sound],
-        )
-        && print_sound(rt, &words[0..video])
+// A plate file: its length, how many words each section has, and what is in them.
+fn print_sheet(rt: &impl Print, bytes: usize, sheet: Sheet<'_>) -> io::Result<()> {
+    let bytes = Count(bytes, "byte");
+    let registers = Count(sheet.registers.len(), "register word");
+    let video = Count(sheet.video.len(), "video word");
+    let cursor = Count(sheet.cursor.len(), "cursor word");
+    let sound = Count(sheet.sound.len(), "sound word");
+    println!(rt; "{bytes}: {registers}, {video}, {cursor}, {sound}")?;
+    print_words(rt, sheet.registers)?;
+    print_picture(rt, sheet)?;
+    print_sound(rt, sheet)
 }
 
 // A file that is not taken apart: too long, or no plate.
-fn print_not_taken(rt: &(impl Print + Eprint), bytes: usize, why: Refusal) -> bool {
-    if why.number() == 15 {
-        return print_no_plate(rt, Line::new().text(b"over 65,536 bytes: too long"), why);
+fn print_not_taken(rt: &impl Print, bytes: usize, why: Refusal) -> io::Result<()> {
+    match why {
+        Refusal::TooLarge => println!(rt; "over 65,536 bytes: too long")?,
+        _ => println!(rt; "{}: no plate file", Count(bytes, "byte"))?,
     }
-    let head = Line::new().count(bytes, b" byte");
-    print_no_plate(rt, head.text(b": no plate file"), why)
+    print_verdict(rt, "picture", Err(why), &[])?;
+    print_verdict(rt, "sound", Err(why), &[])
 }
 
-// What is in a plate, and whether all of it was written.
-pub fn print_plate(rt: &(impl Print + Eprint), plate: &[u8]) -> bool {
+// What is in a plate.
+pub fn print_plate(rt: &impl Print, plate: &[u8]) -> io::Result<()> {
     let mut words = [0u32; 16384];
-    let taken = take_input(plate, &mut words);
-    let answer = taken.answer;
-    match answer {
-        Answer::Refused(why) => print_not_taken(rt, plate.len(), why),
-        Answer::Done => print_parts(rt, plate.len(), taken.parts, &words),
+    match Sheet::of_input(plate, &mut words) {
+        Err(why) => print_not_taken(rt, plate.len(), why),
+        Ok(sheet) => print_sheet(rt, plate.len(), sheet),
     }
 }

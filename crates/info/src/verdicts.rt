@@ -1,116 +1,115 @@
 // The verdicts: accepted, or the refusal's number, its detail and its rule.
-use crate::line::Line;
-use crate::names::put_register;
-use crate::terms::put_depth;
+use crate::names::{Address, Named};
 use crate::words::{address_of, stored};
-use refusals::{Answer, Refusal};
+use refusals::Refusal;
 use registers::record::Registers;
-use registers::setting::Setting;
+use std::fmt;
 
-// A number of those that a rule compares.
-fn put_then(line: Line, x: u16) -> Line {
-    line.text(b", ").small(x)
+// What is judged, and how; `words` are the register words.
+#[derive(Clone, Copy)]
+pub struct Verdict<'a> {
+    pub judged: &'a str,
+    pub answer: Result<(), Refusal>,
+    pub words: &'a [u32],
 }
 
-fn put_horizontal(line: Line, s: Setting) -> Line {
-    let line = line
-        .text(b"not HS <= BS <= DS < DE <= BE <= N: ")
-        .small(s.hs.0);
-    let line = put_then(put_then(put_then(line, s.bs.0), s.ds.0), s.de.0);
-    put_then(put_then(line, s.be.0), s.n.0)
-}
-
-fn put_vertical(line: Line, s: Setting) -> Line {
-    let line = line
-        .text(b"vertical rule broken; VS, VBS, VDS, VDE, VBE, V: ")
-        .small(s.vs.0);
-    let line = put_then(put_then(put_then(line, s.vbs.0), s.vds.0), s.vde.0);
-    put_then(put_then(line, s.vbe.0), s.v.0)
-}
-
-fn put_width(line: Line, s: Setting) -> Line {
-    let line = line
-        .text(b"(DE-DS) x depth not a multiple of 32: DE ")
-        .small(s.de.0);
-    put_depth(line.text(b", DS ").small(s.ds.0).text(b", "), s.depth)
-}
-
-fn put_sync_width(line: Line, s: Setting, rate: u8) -> Line {
-    let line = line
-        .text(b"cursor on, and 6 x HS below 5 x the pixel rate: HS ")
-        .small(s.hs.0);
-    line.text(b", ").number(rate as u64).text(b" MHz")
-}
-
-fn put_reserved(line: Line, words: &[u32], index: u32) -> Line {
-    let k = index as usize;
-    let line = line
-        .text(b"word ")
-        .number(k as u64)
-        .text(b" has a reserved address");
-    // a refusal's index is that of a word, so this does not arise
-    if words.len() <= k {
-        return line;
-    }
-    line.text(b" (").address(address_of(words[k])).text(b")")
-}
-
-fn put_wrong_sound(line: Line, address: u32) -> Line {
-    let line = put_register(line, address);
-    if address as usize == Registers::SOUND_FREQUENCY {
-        return line.text(b" is below 3");
-    }
-    line.text(b" is 0")
-}
-
-// The rule of a refusal that says no more; 12, 13, 16 to 18 and 20 are of calls that are not made here.
-fn put_plain_rule(line: Line, number: u32) -> Line {
-    match number {
-        1 => line.text(b"over 1,024 register words"),
-        4 => line.text(b"control bit 14 or 15 set"),
-        5 => line.text(b"interlace set"),
-        9 => line.text(b"cursor on, and sub-position not 0 or VCE > V"),
-        11 => line.text(b"video or cursor word count wrong"),
-        14 => line.text(b"file length or trailer wrong"),
-        15 => line.text(b"over 65,536 bytes"),
-        _ => line,
+impl fmt::Display for Verdict<'_> {
+    fn fmt<W: fmt::Write>(&self, f: &mut fmt::Formatter<W>) -> fmt::Result {
+        let judged = self.judged;
+        match self.answer {
+            Ok(()) => write!(f, "{judged}: accepted"),
+            Err(why) => {
+                let rule = Rule {
+                    why,
+                    words: self.words,
+                };
+                write!(
+                    f,
+                    "{judged}: refused {} {}: {rule}",
+                    why.number(),
+                    why.detail()
+                )
+            }
+        }
     }
 }
 
 // The rule that a refusal stands for, with what broke it in the registers as the words leave them.
-fn put_rule(line: Line, why: Refusal, words: &[u32]) -> Line {
-    let g = stored(words);
-    let s = g.setting();
-    match why {
-        Refusal::Reserved(index) => put_reserved(line, words, index),
-        Refusal::Unwritten(address) => put_register(line, address).text(b" was never written"),
-        Refusal::Sound(address) => put_wrong_sound(line, address),
-        Refusal::Horizontal => put_horizontal(line, s),
-        Refusal::SyncWidth => put_sync_width(line, s, g.pixel_rate()),
-        Refusal::Vertical => put_vertical(line, s),
-        Refusal::Width => put_width(line, s),
-        _ => put_plain_rule(line, why.number()),
+#[derive(Clone, Copy)]
+struct Rule<'a> {
+    why: Refusal,
+    words: &'a [u32],
+}
+
+impl Rule<'_> {
+    // A rule on places of the frame, with each of them.
+    fn of_places<W: fmt::Write>(&self, f: &mut fmt::Formatter<W>) -> fmt::Result {
+        let g = stored(self.words);
+        let s = g.setting();
+        match self.why {
+            Refusal::Horizontal => write!(
+                f,
+                "not HS <= BS <= DS < DE <= BE <= N: {}, {}, {}, {}, {}, {}",
+                s.hs.0, s.bs.0, s.ds.0, s.de.0, s.be.0, s.n.0
+            ),
+            Refusal::Vertical => write!(
+                f,
+                "vertical rule broken; VS, VBS, VDS, VDE, VBE, V: {}, {}, {}, {}, {}, {}",
+                s.vs.0, s.vbs.0, s.vds.0, s.vde.0, s.vbe.0, s.v.0
+            ),
+            Refusal::Width => write!(
+                f,
+                "(DE-DS) x depth not a multiple of 32: DE {}, DS {}, depth {}",
+                s.de.0, s.ds.0, s.depth
+            ),
+            _ => write!(
+                f,
+                "cursor on, and 6 x HS below 5 x the pixel rate: HS {}, {} MHz",
+                s.hs.0,
+                g.pixel_rate()
+            ),
+        }
+    }
+
+    // A word with a reserved address. The index is that of a word, so that there is always an address.
+    fn reserved<W: fmt::Write>(&self, f: &mut fmt::Formatter<W>, index: u32) -> fmt::Result {
+        write!(f, "word {index} has a reserved address")?;
+        match self.words.get(index as usize) {
+            Some(word) => write!(f, " ({})", Address(address_of(*word))),
+            None => Ok(()),
+        }
     }
 }
 
-// One line, and whether it was written: what is judged, and the answer. `words` are the register words.
-pub fn print_verdict(
-    rt: &(impl Print + Eprint),
-    judged: &[u8],
-    answer: Answer,
-    words: &[u32],
-) -> bool {
-    let line = Line::new().text(judged);
-    match answer {
-        Answer::Done => line.text(b": accepted").print(rt),
-        Answer::Refused(why) => {
-            let line = line
-                .text(b": refused ")
-                .number(why.number() as u64)
-                .text(b" ")
-                .number(why.detail() as u64)
-                .text(b": ");
-            put_rule(line, why, words).print(rt)
+fn wrong_sound<W: fmt::Write>(f: &mut fmt::Formatter<W>, address: u32) -> fmt::Result {
+    if address as usize == Registers::SOUND_FREQUENCY {
+        return write!(f, "{} is below 3", Named(address));
+    }
+    write!(f, "{} is 0", Named(address))
+}
+
+impl fmt::Display for Rule<'_> {
+    fn fmt<W: fmt::Write>(&self, f: &mut fmt::Formatter<W>) -> fmt::Result {
+        match self.why {
+            Refusal::TooManyWords => f.write_str("over 1,024 register words"),
+            Refusal::Reserved(index) => self.reserved(f, index),
+            Refusal::Unwritten(address) => write!(f, "{} was never written", Named(address)),
+            Refusal::TestMode => f.write_str("control bit 14 or 15 set"),
+            Refusal::Interlace => f.write_str("interlace set"),
+            Refusal::Horizontal | Refusal::Vertical | Refusal::Width | Refusal::SyncWidth =>
+                self.of_places(f),
+            Refusal::Cursor => f.write_str("cursor on, and sub-position not 0 or VCE > V"),
+            Refusal::Sound(address) => wrong_sound(f, address),
+            Refusal::WordCount => f.write_str("video or cursor word count wrong"),
+            Refusal::PlateFile => f.write_str("file length or trailer wrong"),
+            Refusal::TooLarge => f.write_str("over 65,536 bytes"),
+            // of calls that are not made here
+            Refusal::Raster
+            | Refusal::Short
+            | Refusal::Full
+            | Refusal::Empty
+            | Refusal::WordIndex
+            | Refusal::Camera(_) => Ok(()),
         }
     }
 }

@@ -1,8 +1,10 @@
 // The register words, a line each, in the order written.
-use crate::line::Line;
-use crate::meaning::put_meaning;
-use crate::names::put_name;
+use crate::meaning::Meaning;
+use crate::names::{Address, Name};
+use arrayvec::ArrayString;
 use registers::record::Registers;
+use std::fmt::Write;
+use std::{fmt, io};
 
 pub fn address_of(word: u32) -> usize {
     (word / 0x400_0000 * 4) as usize
@@ -10,61 +12,55 @@ pub fn address_of(word: u32) -> usize {
 
 // What all words leave in the registers, with the reserved ones passed over.
 pub fn stored(words: &[u32]) -> Registers {
-    let mut g = Registers::new();
-    let mut k = 0;
-    while k < words.len() {
-        g = g.store(words[k]);
-        k += 1;
-    }
-    g
+    words
+        .iter()
+        .fold(Registers::new(), |g, word| g.store(*word))
 }
 
-// Whether an address is among those of the words.
-fn is_written(words: &[u32], address: usize) -> bool {
-    let mut k = 0;
-    while k < words.len() {
-        if address_of(words[k]) == address {
-            return true;
-        }
-        k += 1;
-    }
-    false
-}
-
-// The line of word k; `later` are the words behind it, and `g` holds what all of them leave.
-fn print_word(
-    rt: &(impl Print + Eprint),
+// The line of word k; `later` are the words behind it, and `after` is what all of them leave.
+#[derive(Clone, Copy)]
+struct Row<'a> {
     k: usize,
     word: u32,
-    later: &[u32],
-    g: Registers,
-) -> bool {
-    let address = address_of(word);
-    let line = Line::new()
-        .number(k as u64)
-        .column(6)
-        .address(address)
-        .column(11);
-    let line = put_name(line, address)
-        .column(28)
-        .register_data(word)
-        .column(37);
-    let line = put_meaning(line, g.store(word), address);
-    if is_written(later, address) {
-        return line.text(b" (written again below)").print(rt);
-    }
-    line.print(rt)
+    later: &'a [u32],
+    after: &'a Registers,
 }
 
-// All lines, and whether they were written.
-pub fn print_words(rt: &(impl Print + Eprint), words: &[u32]) -> bool {
-    let g = stored(words);
-    let mut k = 0;
-    while k < words.len() {
-        if !print_word(rt, k, words[k], &words[k + 1..], g) {
-            return false;
+impl fmt::Display for Row<'_> {
+    fn fmt<W: fmt::Write>(&self, f: &mut fmt::Formatter<W>) -> fmt::Result {
+        let k = self.k;
+        let address = address_of(self.word);
+        let mut name = ArrayString::<16>::new();
+        write!(name, "{}", Name(address))?;
+        let data = self.word % 0x100_0000;
+        let registers = self.after.store(self.word);
+        let meaning = Meaning {
+            registers: &registers,
+            address,
+        };
+        write!(
+            f,
+            "{k:<6}{}  {name:<17}{data:06X}H  {meaning}",
+            Address(address)
+        )?;
+        if self.later.iter().any(|word| address_of(*word) == address) {
+            f.write_str(" (written again below)")?;
         }
-        k += 1;
+        Ok(())
     }
-    true
+}
+
+// All lines.
+pub fn print_words(rt: &impl Print, words: &[u32]) -> io::Result<()> {
+    let after = stored(words);
+    for (k, word) in words.iter().enumerate() {
+        let row = Row {
+            k,
+            word: *word,
+            later: &words[k + 1..],
+            after: &after,
+        };
+        println!(rt; "{row}")?;
+    }
+    Ok(())
 }

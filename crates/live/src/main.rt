@@ -6,22 +6,18 @@ mod bench;
 mod run;
 mod said;
 
-ghost use Rattle.std.specs.Prelude.{◌≤◌, length};
-
 use bench::{Bench, Totals, put_number};
 use cells::judge;
 use queues::Queue;
 use queues::syncs::video_ask;
-use refusals::{Answer, Refusal};
 use registers::check::Checked;
 use registers::record::Registers;
 use registers::setting::Setting;
 use registers::units::{Pixels, Rasters};
 use run::run;
 use said::{say_end, say_rasters};
-use sheets::Parts;
-use sheets::input::take_input;
-use standard_output::write;
+use standard_plate::{Failure, Room};
+use std::io;
 
 fn wide(rasters: Rasters) -> u32 {
     rasters.0 as u32
@@ -76,7 +72,7 @@ fn idle(control: u32, rasters: u32) -> Bench {
 }
 
 // One frame with one video queue.
-fn run_frame(rt: &(impl Print + Eprint), g: Registers, s: Setting, video: &[u32]) {
+fn run_frame(rt: &impl Print, g: Registers, s: Setting, video: &[u32]) -> io::Result<()> {
     let mut told = [0u32; 3072];
     fill(g, s, &mut told);
     let rasters = s.v.0 as u32;
@@ -87,57 +83,29 @@ fn run_frame(rt: &(impl Print + Eprint), g: Registers, s: Setting, video: &[u32]
         video,
         &mut told,
     );
-    if say_rasters(rt, &told, rasters) {
-        say_end(rt, after.totals, video.len());
+    say_rasters(rt, &told, rasters)?;
+    say_end(rt, after.totals, video.len())
+}
+
+// The register words are loaded and checked, and the picture is judged.
+fn run_input(rt: &(impl io::Input + Print)) -> Result<(), Failure> {
+    let mut room = Room::default();
+    let sheet = room.sheet(rt)?;
+    let verdict = Registers::new().load_and_check(sheet.registers);
+    if let Checked::Refused(why) = verdict.checked {
+        return Err(Failure::Refused(why));
     }
-}
-
-// A plate that is refused has one line, which says why.
-fn say_refused(rt: &(impl Print + Eprint), why: Refusal) {
-    let mut text = [0u8; 64];
-    let n = outputs::text::refused(why, &mut text);
-    write(rt, &text[..n]);
-}
-
-fn run_picture(rt: &(impl Print + Eprint), g: Registers, video: &[u32], cursor: &[u32]) {
-    match judge(g, video, cursor) {
-        Checked::Refused(why) => say_refused(rt, why),
-        Checked::Accepted(s) => run_frame(rt, g, s, video),
-    }
-}
-
-// The register words are loaded and checked first.
-fn run_parts(rt: &(impl Print + Eprint), parts: Parts, words: &[u32])
-    requires { (parts.video ≤ parts.cursor) × (parts.cursor ≤ parts.sound) × (parts.sound ≤ length words.now) }
-{
-    let video = parts.video;
-    let cursor = parts.cursor;
-    let sound = parts.sound;
-    let verdict = Registers::new().load_and_check(&words[0..video]);
-    let g = verdict.registers;
-    let checked = verdict.checked;
-    match checked {
-        Checked::Refused(why) => say_refused(rt, why),
-        Checked::Accepted(_) => run_picture(rt, g, &words[video..cursor], &words[cursor..sound]),
-    }
-}
-
-fn run_plate(rt: &(impl Print + Eprint), plate: &[u8]) {
-    let mut words = [0u32; 16384];
-    let taken = take_input(plate, &mut words);
-    let answer = taken.answer;
-    match answer {
-        Answer::Refused(why) => say_refused(rt, why),
-        Answer::Done => run_parts(rt, taken.parts, &words),
+    match judge(verdict.registers, sheet.video, sheet.cursor) {
+        Checked::Refused(why) => Err(Failure::Refused(why)),
+        Checked::Accepted(s) => {
+            run_frame(rt, verdict.registers, s, sheet.video)?;
+            Ok(())
+        }
     }
 }
 
 fn main(rt: HostRuntime) {
-    // One byte more than is taken: a longer plate is refused for its length alone.
-    let mut plate = [0u8; 65537];
-    let input = standard_input::read(&rt, &mut plate);
-    if !input.failed {
-        let n = input.count;
-        run_plate(&rt, &plate[..n]);
+    if let Err(failure) = run_input(&rt) {
+        failure.print(&rt);
     }
 }

@@ -15,17 +15,37 @@ const LONG_NAME: i32 = 36;
 
 const NO_TEXT: i32 = 84;
 
-// An open file, and the size that its picture must have.
-#[derive(Clone, Copy)]
-pub struct Camera<'a> {
-    pub file: &'a File,
-    pub n: u16,
-    pub v: u16,
+// What is wrong with a camera picture.
+#[derive(Drop)]
+pub enum Fault {
+    // It can't be read; it can't be read a second time.
+    Unread(io::Error),
+    NotTwice(io::Error),
+    // It is none of the width and height that are asked for.
+    Wrong(u16, u16),
+}
+
+impl Fault {
+    // One line on standard error.
+    pub fn tell(self, rt: &impl Eprint) {
+        match self {
+            Fault::Unread(error) => standard_error::fail(rt, "the camera picture", error),
+            Fault::NotTwice(error) => {
+                standard_error::fail(rt, "the camera picture, which is read twice", error);
+            }
+            Fault::Wrong(n, v) => {
+                let asked = "with a greatest value of 255, each byte 17 times a 4-bit gun";
+                let _ = eprintln!(rt;
+                    "the camera picture must be a binary PPM file of {n} x {v} {asked}"
+                );
+            }
+        }
+    }
 }
 
 // The file that the first argument names, open.
 fn named(rt: &(impl Files<File = File> + Env)) -> io::Result<File> {
-    let mut name = [0u8; 4096];
+    let mut name = [0; 4096];
     match rt.arg(1, &mut name) {
         Ok(length) => match str::from_utf8(&name[..length]) {
             Ok(path) => fs::open(rt, path),
@@ -36,117 +56,95 @@ fn named(rt: &(impl Files<File = File> + Env)) -> io::Result<File> {
     }
 }
 
-// The same, or none; then it was said why.
-pub fn opened(rt: &(impl Files<File = File> + Env + Eprint)) -> Option<File> {
-    match named(rt) {
-        Ok(file) => Some(file),
-        Err(error) => {
-            standard_error::fail(rt, "the camera picture", error);
-            None
-        }
-    }
+// An open file, and the width and height that its picture must have.
+#[derive(Drop)]
+pub struct Camera {
+    file: File,
+    pub n: u16,
+    pub v: u16,
+    ghost fits: { n ≤ 2048 },
 }
 
-impl Camera<'_> {
-    // The next bytes, and how many there are.
-    fn read_some(self, bytes: &mut [u8]) -> io::Result<usize> {
-        let mut file = self.file;
-        file.read(bytes)
+impl Camera {
+    // The camera picture for a frame of a size, found right from end to end; the first raster is read next.
+    pub fn of(rt: &(impl Files<File = File> + Env), n: u16, v: u16) -> Result<Camera, Fault>
+        requires { n ≤ 2048 }
+    {
+        let file = named(rt).map_err(Fault::Unread)?;
+        let mut camera = Camera { file, n, v };
+        camera.check()?;
+        Ok(camera)
     }
 
     // Why it is not right: a failure, which a read shows again, or what is in it.
-    pub fn say_why(self, rt: &impl Eprint) {
-        let mut probe = [0u8; 1];
-        if let Err(error) = self.read_some(&mut probe) {
-            standard_error::fail(rt, "the camera picture", error);
-            return;
+    fn fault(&mut self) -> Fault {
+        let mut probe = [0; 1];
+        match self.file.read(&mut probe) {
+            Ok(_) => Fault::Wrong(self.n, self.v),
+            Err(error) => Fault::Unread(error),
         }
-        let n = self.n;
-        let v = self.v;
-        let asked = "with a greatest value of 255, each byte 17 times a 4-bit gun";
-        let _ = eprintln!(rt; "the camera picture must be a binary PPM file of {n} x {v} {asked}");
     }
 
     // A head with the file's next byte; where there is none it is wrong.
-    fn head_after(self, head: Head) -> Head {
-        let mut byte = [0u8; 1];
-        match self.read_some(&mut byte) {
+    fn head_after(&mut self, head: Head) -> Head {
+        let mut byte = [0; 1];
+        match self.file.read(&mut byte) {
             Ok(1) => head.next(byte[0], self.n, self.v),
             _ => Head::Wrong,
         }
     }
 
-    // Whether the file begins with a right head. It is read byte by byte, so that the first raster comes next. Nothing says that a
-    // file ends: the turns count down from a number that no run uses up.
-    fn head_right(self) -> bool {
+    // Reads a right head, byte by byte, so that the first raster comes next. Nothing says that a file ends: there are more turns than any
+    // run uses up.
+    fn read_head(&mut self) -> Result<(), Fault> {
         let mut head = Head::Empty;
-        let mut turns = u64::MAX;
-        while turns > 0 && head.is_open() {
+        for _ in 0..u64::MAX {
+            if !head.is_open() {
+                break;
+            }
             head = self.head_after(head);
-            turns -= 1;
         }
-        head.is_whole()
-    }
-
-    // Whether the file has bytes for all that are lent, and they are right; then their colours are in the first places.
-    fn read(self, bytes: &mut [u8], colours: &mut [u16]) -> bool {
-        let mut file = self.file;
-        file.read_exact(bytes).is_ok() && pictures::read::colours(bytes, colours)
-    }
-
-    // The next raster.
-    pub fn raster(self, colours: &mut [u16]) -> bool
-        requires { self.n ≤ 2048 }
-    {
-        let mut bytes = [0u8; 6144];
-        let length = 3 * (self.n as usize);
-        self.read(&mut bytes[..length], colours)
-    }
-
-    fn next_right(self) -> bool
-        requires { self.n ≤ 2048 }
-    {
-        let mut colours = [0u16; 2048];
-        self.raster(&mut colours)
-    }
-
-    fn is_at_end(self) -> bool {
-        let mut probe = [0u8; 1];
-        matches!(self.read_some(&mut probe), Ok(0))
-    }
-
-    // Whether all rasters are right, and nothing is behind them.
-    fn rasters_right(self) -> bool
-        requires { self.n ≤ 2048 }
-    {
-        let mut y: u16 = 0;
-        while y < self.v && self.next_right() {
-            y += 1;
+        if head.is_whole() {
+            Ok(())
+        } else {
+            Err(self.fault())
         }
-        y == self.v && self.is_at_end()
     }
 
-    // Goes back to the first raster, where it is known.
-    fn go_back(self, first: io::Result<u64>) -> io::Result<u64> {
-        let mut file = self.file;
-        file.seek(SeekFrom::Start(first?))
+    // The next raster's colours, in the first places.
+    pub fn raster(&mut self, colours: &mut [u16]) -> Result<(), Fault> {
+        let mut bytes = [0; 6144];
+        let raster = &mut bytes[..3 * usize::from(self.n)];
+        if self.file.read_exact(raster).is_ok() && pictures::read::colours(raster, colours) {
+            return Ok(());
+        }
+        Err(self.fault())
     }
 
-    // Whether it is right from end to end; then the first raster is read next, and else it was said why.
-    pub fn is_right(self, rt: &impl Eprint) -> bool
-        requires { self.n ≤ 2048 }
-    {
-        let right = self.head_right();
-        let mut file = self.file;
-        let first = file.seek(SeekFrom::Current(0));
-        if !right || !self.rasters_right() {
-            self.say_why(rt);
-            return false;
+    // Reads all rasters; nothing is behind them.
+    fn read_rasters(&mut self) -> Result<(), Fault> {
+        let mut colours = [0; 2048];
+        for _ in 0..self.v {
+            self.raster(&mut colours)?;
         }
-        if let Err(error) = self.go_back(first) {
-            standard_error::fail(rt, "the camera picture, which is read twice", error);
-            return false;
+        let mut probe = [0; 1];
+        match self.file.read(&mut probe) {
+            Ok(0) => Ok(()),
+            _ => Err(self.fault()),
         }
-        true
+    }
+
+    // Goes back to a place, where it is known.
+    fn go_back(&mut self, place: io::Result<u64>) -> io::Result<u64> {
+        self.file.seek(SeekFrom::Start(place?))
+    }
+
+    // Reads it from end to end, and goes back to the first raster.
+    fn check(&mut self) -> Result<(), Fault> {
+        self.read_head()?;
+        let first = self.file.stream_position();
+        self.read_rasters()?;
+        self.go_back(first).map_err(Fault::NotTwice)?;
+        Ok(())
     }
 }

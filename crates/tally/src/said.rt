@@ -1,57 +1,28 @@
 // What is said of the entries: a line for each displayed raster, and a last line with the sum of their marks.
-ghost use Rattle.std.specs.Prelude.{◌≤◌};
-
 use registers::setting::Setting;
-use standard_output::{say, write};
+use standard_plate::Failure;
 
-fn wide(n: u16) -> u32
-    ensures { result ≤ 65535 }
-{
-    n as u32
+// The last line. Where it can't be written that is told twice, of its number and of its end.
+fn say_total(rt: &(impl Print + Eprint), total: u32) -> Result<(), Failure> {
+    if let Err(error) = print!(rt; "total {total}") {
+        Failure::Output(error).tell(rt);
+    }
+    rt.write_all(b"\n")?;
+    Ok(())
 }
 
-// A number of entry r: its marks, its least or its greatest grey.
-fn number_at(numbers: &[u16; 3072], r: u16, k: usize) -> u32
-    ensures { result ≤ 65535 }
-{
-    wide(numbers[3 * (r as usize % 1024) + k % 3])
-}
-
-fn say_entry(
+pub fn say_entries(
     rt: &(impl Print + Eprint),
-    raster: u32,
-    count: u32,
-    least: u32,
-    greatest: u32,
-) -> bool {
-    say(rt, "raster ", raster)
-        && say(rt, " marks ", count)
-        && say(rt, " least ", least)
-        && say(rt, " greatest ", greatest)
-        && write(rt, b"\n")
-}
-
-// Entry r, and whether all of it was written.
-fn say_raster(rt: &(impl Print + Eprint), s: Setting, numbers: &[u16; 3072], r: u16) -> bool {
-    say_entry(
-        rt,
-        wide(s.vds.0) + wide(r),
-        number_at(numbers, r, 0),
-        number_at(numbers, r, 1),
-        number_at(numbers, r, 2),
-    )
-}
-
-pub fn say_entries(rt: &(impl Print + Eprint), s: Setting, numbers: &[u16; 3072]) {
-    let rasters = s.vde.height_from(s.vds).0;
-    let mut total: u32 = 0;
-    let mut r: u16 = 0;
-    while r < rasters && say_raster(rt, s, numbers, r) {
-        total = (total + number_at(numbers, r, 0)) % 0x100_0000;
-        r += 1;
+    s: Setting,
+    numbers: &[u16; 3072],
+) -> Result<(), Failure> {
+    let (entries, _) = numbers.as_chunks::<3>();
+    let rasters = usize::from(s.vde.height_from(s.vds).0).min(entries.len());
+    let mut total = 0;
+    for (r, [count, least, greatest]) in entries[..rasters].iter().enumerate() {
+        let raster = usize::from(s.vds.0) + r;
+        println!(rt; "raster {raster} marks {count} least {least} greatest {greatest}")?;
+        total += u32::from(*count);
     }
-    if r == rasters {
-        say(rt, "total ", total);
-        write(rt, b"\n");
-    }
+    say_total(rt, total)
 }
