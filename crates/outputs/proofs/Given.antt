@@ -5,7 +5,7 @@ use mathlib.Core.List.{List}
 use native.Mathlib.Omega.{arith}
 use lib.ListN.{length, take}
 use Rattle.buffers.specs.Values.{values_from}
-use Rattle.buffers.proofs.Values.{painted_values}
+use Rattle.buffers.proofs.Values.{length_values, painted_values}
 use Rattle.refusals.specs.Table.{given}
 use Rattle.refusals.specs.declared.Refusal.{Refusal}
 use Rattle.refusals.proofs.Tables.{never}
@@ -42,6 +42,13 @@ module _ (g : Registers) (video cursor : List ℕ) (s : Setting) (e : picture_to
   raster_values y o cells a b h =
       ap (take s.n.0) (h ∙ raster_held g video cursor o y s e a b)
       ∙ painted_values o s.n.0 (raster_cell g s video cursor y) b
+
+  -- and how many they are
+  pub some_cells : {cells : List ℕ} (y : ℕ) → cells ≡ values_from (raster_cell g s video cursor y) 0 s.n.0 → (1 ≤ length cells) × (length cells ≤ 2048)
+  some_cells y h =
+      let a = picture_accepted in
+      let n = ap length h ∙ length_values (raster_cell g s video cursor y) 0 s.n.0 in
+      (omega (arith, n, a.be_n, a.de_be, a.ds_de), omega (arith, n, a.n_most))
 
   pub marks_are : (x : Marks) (m : ℕ) → marks_says x ≡ marks_told g video cursor 128 → x ≡ marks.Count m → m ≡ marks_of g s video cursor 128
   marks_are x m h q = let z : given m ≡ given (marks_of g s video cursor 128) = sym (ap marks_says q) ∙ (h ∙ marks_given 128) in cc

@@ -3,18 +3,13 @@ use Prim.Native.Nat.{ℕ, ◌*◌, ◌-◌, ◌<◌, ◌≤◌}
 use mathlib.Core.Path.{◌≡◌, refl}
 use mathlib.Core.List.{List, []}
 use native.Mathlib.Omega.{arith}
-use native.Mathlib.Nat.{sub-zero}
-use lib.ListN.{length, take}
+use lib.ListN.{length}
 use borrow.Author.Tests.{lt-leb, le-leb, eq-eqb, ne_eqb}
 use Rattle.buffers.specs.Put.{Put, text_in}
 use Rattle.buffers.proofs.Puts.{text_fits}
-use Rattle.refusals.specs.Table.{Told, given, refused}
-use Rattle.refusals.specs.declared.Refusal.{Refusal}
-use Rattle.registers.specs.Check.{check_says}
+use Rattle.refusals.specs.Table.{Why, Told, given, refused}
 use Rattle.registers.specs.declared.record.Registers.{Registers}
 use Rattle.registers.specs.declared.setting.Setting.{Setting}
-use Rattle.registers.specs.declared.check.Checked.{Checked}
-use Rattle.registers.specs.declared.check.Checked.TheVariants as checked
 use Rattle.pictures.specs.Colours.{guns_of}
 use Rattle.pictures.proofs.Stored.{length_guns}
 use Rattle.cells.specs.Picture.{picture_told}
@@ -34,22 +29,20 @@ module _ (g : Registers) (video cursor : List ℕ) (s : Setting) (k : ℕ) where
   unfolding picture_strip
   strip_raster h a = rw (ne_eqb k 0 h, le-leb _ _ a)
 
--- a picture judged, and its strip
-module _ (g : Registers) (video cursor : List ℕ) (k : ℕ) (x : Checked) (e : check_says x ≡ picture_told g video cursor) where
-  pub strip_refused : (why : Refusal) → x ≡ checked.Refused why → strip_at g video cursor k ≡ []
+-- a strip of what is told of a picture
+module _ (g : Registers) (video cursor : List ℕ) (k : ℕ) where
+  pub strip_refused : (w : Why) → picture_told g video cursor ≡ refused w → strip_at g video cursor k ≡ []
   unfolding strip_at
-  strip_refused why q = rw (← e, q)
+  strip_refused w e = rw e
 
-  pub strip_given : (s : Setting) → x ≡ checked.Accepted s → strip_at g video cursor k ≡ picture_strip g s video cursor k
+  pub strip_given : (s : Setting) → picture_told g video cursor ≡ given s → strip_at g video cursor k ≡ picture_strip g s video cursor k
   unfolding strip_at
-  strip_given s q = rw (← e, q)
+  strip_given s e = rw e
 
--- the first n cells as a part of them, with room for their bytes
-pub part_guns : {o p : List ℕ} {r : ℕ} (n room : ℕ) (cells vs : List ℕ) → take n cells ≡ vs → 3 * length (take (n - 0) cells) ≤ room
-    → Put o p 0 (text_in room (guns_of (take (n - 0) cells))) r → Put o p 0 (guns_of vs) r
-part_guns n room cells vs e h t =
-    let part : List ℕ = take (n - 0) cells in
-    rw (← e, ← sub-zero n, ← text_fits room (guns_of part) (omega (arith, length_guns part))) t
+-- the bytes of some cells, with room for them
+pub guns_fit : {o p : List ℕ} {r : ℕ} (room : ℕ) (cells : List ℕ) → 3 * length cells ≤ room
+    → Put o p 0 (text_in room (guns_of cells)) r → Put o p 0 (guns_of cells) r
+guns_fit room cells h t = rw (← text_fits room (guns_of cells) (omega (arith, length_guns cells))) t
 
 -- past the last strip there is nothing: the whole file is the strips before it, one after the other
 pub no_more_strips : (g : Registers) (video cursor : List ℕ) (t : Told Setting) (k : ℕ) → strips_for t ≤ k → strip_by g video cursor t k ≡ []

@@ -1,50 +1,62 @@
--- Powers of ten: the table that the code reads, and the digits of a number.
-use Prim.Native.Nat.{ℕ, zero, suc, ◌+◌, ◌-◌, ◌^◌, ◌<◌, ◌≤◌}
-use mathlib.Core.Path.{◌≡◌, refl, ap}
-use mathlib.Core.Bool.{Bool, true, false}
+-- Powers of ten, and the digits of a number: how many, and stored from the last one on.
+use Prim.Native.Nat.{ℕ, zero, suc, ◌+◌, ◌*◌, ◌/◌, ◌^◌, ◌<◌, ◌≤◌, max}
+use mathlib.Core.Path.{◌≡◌, refl, sym, ap, ◌∙◌}
 use mathlib.Core.List.{List, [], ◌∷◌}
-use native.Mathlib.Omega.{arith}
+use mathlib.Core.Logic.{inl, inr}
+use native.Mathlib.Nat.{pow-suc, pow-le-pow_right, div-div-eq-div-mul}
 use native.Mathlib.Numerals.{add-one}
-use lib.ListN.{length, get_or, set}
+use native.Mathlib.Omega.{arith}
+use lib.ListN.{length, set}
 use lib.Seq.{sets}
-use lib.Dec.{eqb, eqb→eq, ltb, ltb→lt}
-use Rattle.buffers.proofs.Table.{at}
-use borrow.Author.Tests.{lt-ltb, le-ltb}
-use Rattle.outputs.specs.Decimal.{fits_in, digit_of, digits}
-
-abbrev pub tens : List ℕ
-tens = 1 ∷ 10 ∷ 100 ∷ 1000 ∷ 10000 ∷ 100000 ∷ 1000000 ∷ 10000000 ∷ 100000000 ∷ 1000000000 ∷ []
-
-abbrev right : ℕ → ℕ → Bool
-right k x = eqb x (10 ^ k)
-
-pub ten_at : (k : ℕ) → k < 10 → get_or tens k 0 ≡ 10 ^ k
-ten_at k h = eqb→eq (get_or tens k 0) (10 ^ k) (at right tens tt k h)
+use borrow.Author.Tests.{ltb-true, ltb-false}
+use Rattle.std.proofs.lemmas.List.{set_comm}
+use Rattle.buffers.proofs.Split.{lt_or_le}
+use Rattle.registers.proofs.First.{lowest_passes, lowest_fails}
+use Rattle.registers.proofs.Groups.{lowest_least}
+use Rattle.outputs.specs.Decimal.{fits_in, places, digit_of, digits}
 
 pub length_digits : (n k : ℕ) → length (digits n k) ≡ k
 unfolding digits
 length_digits n zero = refl
 length_digits n (suc k) = ap suc (length_digits n k)
 
--- a test against the table is the test against the power
-pub fits_yes : (n k : ℕ) → k < 10 → n < get_or tens k 0 → fits_in n k ≡ true
-fits_yes n k h l = lt-ltb n (10 ^ k) (rw (ten_at k h) at l)
+-- the power of ten that a number reaches tells its places; 0 has one
+module _ (n m r : ℕ) (e : m ≡ max n 1) (low : 10 ^ r ≤ m) (high : m < 10 * 10 ^ r) (few : r < 10) where
+  no_fewer : places n < r + 1 → ⊥
+  no_fewer h =
+      let below = ltb-true n (10 ^ places n) (lowest_passes (fits_in n) 9 1 (omega arith)) in
+      let some = lowest_least (fits_in n) 9 1 in
+      let up : 10 ^ places n ≤ 10 ^ r = pow-le-pow_right {n = 10} (omega arith) (omega arith) in
+      let ten : 10 ^ 1 ≤ 10 ^ places n = pow-le-pow_right {n = 10} (omega arith) some in
+      omega (arith, below, up, ten)
 
-pub fits_no : (n k : ℕ) → k < 10 → get_or tens k 0 ≤ n → fits_in n k ≡ false
-fits_no n k h l = le-ltb n (10 ^ k) (rw (ten_at k h) at l)
+  no_more : r + 1 < places n → ⊥
+  no_more h =
+      let above = ltb-false n (10 ^ (r + 1)) (lowest_fails (fits_in n) 9 1 (r + 1) (omega arith) h) in
+      let next : 10 ^ (r + 1) ≡ 10 ^ r * 10 = rw add-one (pow-suc 10 r) in
+      omega (arith, above, next)
 
-abbrev positive : ℕ → ℕ → Bool
-positive k x = ltb 0 x
+  pub places_are : r + 1 ≡ places n
+  places_are = elim (lt_or_le (places n) (r + 1)) [
+    | inl h ↦ absurd (no_fewer h)
+    | inr h ↦ elim (lt_or_le (r + 1) (places n)) [ inl t ↦ absurd (no_more t) | inr t ↦ omega arith ]
+  ]
 
-pub ten_positive : (k : ℕ) → k < 10 → 0 < get_or tens k 0
-ten_positive k h = ltb→lt 0 (get_or tens k 0) (at positive tens tt k h)
+-- what is left of a number after k + 1 digits
+pub left_after : (n k : ℕ) → n / 10 ^ k / 10 ≡ n / 10 ^ suc k
+left_after n k = div-div-eq-div-mul n (10 ^ k) 10 ∙ ap (λ (m : ℕ). n / m) (sym (pow-suc 10 k))
 
--- one turn of storing digits, and the last
-pub digits_turn : (out : List ℕ) (i n k : ℕ) → 0 < k → sets out i (digits n k) ≡ sets (set out i (digit_of n (k - 1))) (i + 1) (digits n (k - 1))
+-- a digit stored left of those that stand
+set_before : (o vs : List ℕ) (i a x : ℕ) → i < a → set (sets o a vs) i x ≡ sets (set o i x) a vs
+set_before o [] i a x h = refl
+set_before o (v ∷ vs) i a x h =
+    set_before (set o a v) vs i (suc a) x (omega arith)
+    ∙ ap (λ (l : List ℕ). sets l (suc a) vs) (set_comm o a i v x (λ q. omega arith))
+
+pub digit_more : (o : List ℕ) (i n k : ℕ) → set (sets o (suc i) (digits n k)) i (digit_of n k) ≡ sets o i (digits n (suc k))
 unfolding digits
-digits_turn out i n zero h = absurd (omega arith)
-digits_turn out i n (suc k) h = let q : suc k - 1 ≡ k = omega arith in rw (q, add-one)
+digit_more o i n k = set_before o (digits n k) i (suc i) (digit_of n k) (omega arith)
 
-pub digits_none : (out : List ℕ) (i n k : ℕ) → k ≡ 0 → sets out i (digits n k) ≡ out
+pub digits_none : (o : List ℕ) (i n k : ℕ) → k ≡ 0 → sets o i (digits n k) ≡ o
 unfolding digits
-digits_none out i n k e = rw e
+digits_none o i n k e = rw e

@@ -1,5 +1,5 @@
 -- Laws of a sound: its blocks by their tests, and that the blocks one after the other are the file; a refusal has none.
-use Prim.Native.Nat.{ℕ, zero, suc, ◌+◌, ◌*◌, ◌-◌, ◌/◌, ◌%◌, ◌^◌, ◌<◌, ◌≤◌}
+use Prim.Native.Nat.{ℕ, zero, suc, ◌+◌, ◌*◌, ◌-◌, ◌%◌, ◌^◌, ◌≤◌}
 use mathlib.Core.Path.{◌≡◌, refl, sym, ◌∙◌, ap}
 use mathlib.Core.List.{List, [], ◌++◌, append-nil, append_assoc}
 use mathlib.Core.Logic.{inl, inr}
@@ -67,24 +67,15 @@ no_samples g words k h = rw (drop_of_length-le words {i = 256 * k} h, played_non
 
 -- the blocks of some words, by their tests
 module _ (g : Registers) (words : List ℕ) (k : ℕ) where
-  pub block_none : length words / 256 < k → sound_block g words k ≡ []
-  block_none h = no_samples g words k (omega arith)
+  pub block_none : length words ≤ 256 * k → sound_block g words k ≡ []
+  block_none h = no_samples g words k h
 
   counted : 4 * (256 * k) % 2 ^ 32 ≡ counter_after 0 (1024 * k)
   counted = ap (λ (n : ℕ). n % 2 ^ 32) (omega arith)
 
-  pub block_last : 256 * k ≤ length words → length words - 256 * k < 256
-      → samples_of (played_of g (4 * (256 * k) % 2 ^ 32) (part words (256 * k) (length words))) ≡ sound_block g words k
+  pub block_part : (part : List ℕ) → part ≡ take 256 (drop (256 * k) words) → samples_of (played_of g (4 * (256 * k) % 2 ^ 32) part) ≡ sound_block g words k
   unfolding sound_block
-  block_last a b =
-      let n : length (drop (256 * k) words) ≡ length words - 256 * k = length-drop (256 * k) words in
-      rw (counted, take_all (length words - 256 * k) (drop (256 * k) words) (omega (arith, n)), take_all 256 (drop (256 * k) words) (omega (arith, n)))
-
-  pub block_whole : samples_of (played_of g (4 * (256 * k) % 2 ^ 32) (part words (256 * k) (256 * k + 256))) ≡ sound_block g words k
-  unfolding sound_block
-  block_whole =
-      let d : 256 * k + 256 - 256 * k ≡ 256 = omega arith in
-      rw (counted, d)
+  block_part part e = rw (e, counted)
 
   pub file_head : k ≡ 0 → wave_block g words k ≡ wave_head (frequency_of g) (length words)
   unfolding wave_block

@@ -1,5 +1,5 @@
 // One block of a sound, as a WAV file has it: its head, then the samples of 256 words a block.
-ghost use Rattle.std.specs.Prelude.{◌≡◌, ◌≤◌, length};
+ghost use Rattle.std.specs.Prelude.{◌≡◌, ◌*◌, ◌<◌, ◌≤◌, MatchOption, drop, length, take};
 ghost use Rattle.buffers.specs.Put.{Put};
 ghost use Rattle.registers.specs.Sound.{sound_told};
 ghost use Rattle.refusals.specs.Table.{given};
@@ -12,6 +12,13 @@ use registers::record::Registers;
 
 // How many words a block has.
 const BLOCK: usize = 256;
+
+// The words of block k, from 0, of which the last may have fewer; none past it.
+fn part(words: &[u32], k: usize) -> Option<&[u32]>
+    ensures { MatchOption result (length words.now ≤ 256 * k) (λ part. (256 * k < length words.now) × (part.now ≡ take 256 (drop (256 * k) words.now))) }
+{
+    words.chunks(BLOCK).nth(k)
+}
 
 // The samples of at most a block of words.
 fn put_played(out: &mut [u8], g: Registers, words: &[u32], counter: u32) -> usize
@@ -29,16 +36,14 @@ fn sound_block(out: &mut [u8], g: Registers, words: &[u32], k: usize) -> usize
     requires { (4096 ≤ length out.old) × (sound_told g ≡ given tt) }
     ensures { Put out.old out.new 0 (sound_block g words.now k) result }
 {
-    let n = words.len();
-    if n / BLOCK < k {
-        return 0;
+    match part(words, k) {
+        Some(part) => {
+            let start = BLOCK * k;
+            let counter = (4 * start % 0x1_0000_0000) as u32;
+            put_played(out, g, part, counter)
+        }
+        None => 0,
     }
-    let start = BLOCK * k;
-    let counter = (4 * start % 0x1_0000_0000) as u32;
-    if n - start < BLOCK {
-        return put_played(out, g, &words[start..n], counter);
-    }
-    put_played(out, g, &words[start..start + BLOCK], counter)
 }
 
 // Block k of the file of a record that sound accepts.

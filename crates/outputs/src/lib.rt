@@ -4,6 +4,7 @@
 pub mod blocks;
 mod line;
 mod number;
+mod picture;
 pub mod strips;
 pub mod text;
 pub mod whole;

@@ -68,10 +68,7 @@ fn put_run(out: &mut [u8], at: usize, code: u32, n: u32) -> usize
 fn mark(more: bool) -> u8
     ensures { result ≡ pick more 32 10 }
 {
-    if more {
-        return b' ';
-    }
-    b'\n'
+    if more { b' ' } else { b'\n' }
 }
 
 // The line of some cells, stored from a place on; the place after it.

@@ -17,14 +17,12 @@ fn measure(g: Registers, video: &[u32], cursor: &[u32]) -> usize
 {
     let mut bytes = [0u8; 8256];
     let mut total = 0;
-    let mut k = 0;
-    while k < MOST_LINES {
+    for k in 0..MOST_LINES {
         let n = line(g, video, cursor, k, &mut bytes);
         if n == 0 {
             return total;
         }
         total += n;
-        k += 1;
     }
     total
 }
@@ -36,14 +34,12 @@ fn put_lines(g: Registers, video: &[u32], cursor: &[u32], out: &mut [u8])
 {
     let mut bytes = [0u8; 8256];
     let mut at = 0;
-    let mut k = 0;
-    while k < MOST_LINES {
+    for k in 0..MOST_LINES {
         let n = line(g, video, cursor, k, &mut bytes);
         if n == 0 {
             return;
         }
-        at = put_bytes(out, at, &bytes[0..n]);
-        k += 1;
+        at = put_bytes(out, at, &bytes[..n]);
     }
 }
 

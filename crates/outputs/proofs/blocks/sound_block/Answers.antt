@@ -1,23 +1,21 @@
--- A block past the last word is none; the last may be short, and any other has 256 words.
+-- A block past the last word is none; any other has the samples of its words.
+use mathlib.Core.Path.{ap}
 use native.Mathlib.Omega.{arith}
+use lib.ListN.{length, length-take}
 use Rattle.buffers.proofs.Puts.{put_nothing}
-use Rattle.outputs.proofs.Waves.{block_none, block_last, block_whole}
+use Rattle.outputs.proofs.Waves.{block_none, block_part}
 use Rattle.outputs.proofs.blocks.sound_block.Goals as goal
 
-pub returns-then-n-k : goal.returns-then-n-k
-returns-then-n-k c =
-    let a = c.args in
-    rw (block_none a.g a.words.now a.k c.if-n-k.true) (put_nothing _)
+pub put_played-requires : goal.put_played-requires
+put_played-requires c =
+    (c.requires.0, omega (arith, simp length-take at (ap length c.in-Some.ensures.1)), c.requires.1)
 
-pub returns-then-n-start-lt-BLOCK : goal.returns-then-n-start-lt-BLOCK
-returns-then-n-start-lt-BLOCK c =
-    let if1 = c.if-n-k in
-    let if2 = c.if-n-start-lt-BLOCK in
-    let put_played = c.put_played in
+pub returns-in-Some : goal.returns-in-Some
+returns-in-Some c =
     let a = c.args in
-    rw (← block_last a.g a.words.now a.k (omega (arith, if1.false)) if2.true) put_played.ensures
+    rw (← block_part a.g a.words.now a.k _ c.in-Some.ensures.1) c.put_played.ensures
 
-pub returns : goal.returns
-returns c =
+pub returns-in-None : goal.returns-in-None
+returns-in-None c =
     let a = c.args in
-    rw (← block_whole a.g a.words.now a.k) c.put_played-2.ensures
+    rw (block_none a.g a.words.now a.k c.in-None.ensures) (put_nothing _)

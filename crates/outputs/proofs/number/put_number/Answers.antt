@@ -1,36 +1,32 @@
--- Each turn stores the next digit from the left, so that the digits left to store are those after it.
-use Rattle.outputs.proofs.Tens.{digits_turn, digits_none}
-use Rattle.outputs.specs.Decimal.{fits_in, decimal}
-use Rattle.registers.proofs.First.{lowest_most}
-use lib.ListN.{length-set}
+-- Each turn stores a digit left of those that stand, which are the lowest.
+use mathlib.Core.Path.{◌≡◌, sym}
+use Prim.Native.Nat.{suc, ◌+◌, ◌-◌}
+use native.Mathlib.Nat.{div-one}
 use native.Mathlib.Omega.{arith}
-use mathlib.Core.Path.{refl, sym, ◌∙◌}
+use Rattle.outputs.specs.Decimal.{places, decimal}
+use Rattle.outputs.proofs.Tens.{left_after, digit_more, digits_none}
 use Rattle.outputs.proofs.number.put_number.Goals as goal
 
 pub loop-k-init : goal.loop-k-init
-unfolding decimal
-loop-k-init c = (
-  omega (arith, c.count_places-k.ensures, lowest_most (fits_in c.args.n) 9 1),
-  omega (arith, c.count_places-k.ensures),
-  refl,
-  rw
-      c.count_places-k.ensures,
-)
+loop-k-init c =
+    let count = c.count_places-count.result in
+    let none : count - count ≡ 0 = omega arith in
+    record { left = rw none (sym (div-one c.args.n)); stored = rw none (sym (digits_none c.args.out.now _ c.args.n 0 (omega arith))) }
 
 pub loop-k-preserved : goal.loop-k-preserved
 loop-k-preserved c =
-    let loop = c.loop-k in (
-      omega arith,
-      omega arith,
-      simp length-set loop.invariant.2,
-      rw c.digit.ensures
-          (sym (digits_turn loop.out loop.i _ loop.k (omega arith)) ∙ loop.invariant.3),
-    )
-
-pub shape_of-out : goal.shape_of-out
-shape_of-out c = c.loop-k.invariant.2
+    let l = c.loop-k in
+    let done = c.count_places-count.result - l.k in
+    let next : c.count_places-count.result - (l.k - 1) ≡ suc done = omega arith in
+    let place : c.args.at + l.k ≡ suc (c.args.at + (l.k - 1)) = omega arith in
+    record {
+      left = rw (l.invariant.left, next) (left_after c.args.n done);
+      stored = rw (l.invariant.stored, l.invariant.left, next, place) (digit_more c.args.out.now _ c.args.n done);
+    }
 
 pub returns : goal.returns
+unfolding decimal
 returns c =
-    let loop = c.loop-k in
-    (omega arith, sym (digits_none loop.out loop.i c.args.n loop.k (omega arith)) ∙ loop.invariant.3)
+    let first : c.args.at + c.loop-k.k ≡ c.args.at = omega arith in
+    let all : c.count_places-count.result - c.loop-k.k ≡ places c.args.n = omega arith in
+    (omega arith, rw (first, all) at c.loop-k.invariant.stored)

@@ -1,8 +1,6 @@
 -- The line is put together in memory of its own, which is always long enough, and copied where it fits.
-use mathlib.Core.Path.{ap}
 use native.Mathlib.Omega.{arith}
 use lib.ListN.{length}
-use lib.Seq.{length-sets}
 use Rattle.buffers.proofs.Puts.{put_nothing, text_short, text_fits}
 use Rattle.refusals.specs.Refusals.{why_of}
 use Rattle.outputs.specs.Text.{refused_line}
@@ -14,11 +12,6 @@ returns-then-out-n c =
     let a = c.args in
     let put = c.put_refused-n.ensures in
     rw (text_short (length a.out.now) (refused_line (why_of a.why)) (omega (arith, put.after, c.if-out-n.true))) (put_nothing _)
-
-pub slice_bounds-put_bytes-end : goal.slice_bounds-put_bytes-end
-slice_bounds-put_bytes-end c =
-    let put = c.put_refused-n.ensures in
-    omega (arith, put.inside, simp length-sets at (ap length put.stored))
 
 pub put_bytes-requires : goal.put_bytes-requires
 put_bytes-requires c =

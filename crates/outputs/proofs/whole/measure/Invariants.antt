@@ -1,5 +1,5 @@
 -- Each turn adds one line's bytes, and a line of none comes after the last.
-use Prim.Native.Nat.{◌*◌, ◌-◌, ◌≤◌}
+use Prim.Native.Nat.{◌*◌, ◌≤◌}
 use mathlib.Core.Path.{◌≡◌}
 use lib.ListN.{length}
 use Rattle.cells.specs.Picture.{picture_told}
@@ -8,9 +8,6 @@ use Rattle.outputs.proofs.whole.measure.Given as goal
 
 abbrev pub invariant-loop-k : goal.invariant-loop-k
 invariant-loop-k l =
-    (l.k ≤ 1025) × (l.k ≤ lines_for (picture_told l.g l.video l.cursor))
+    (l.k ≤ lines_for (picture_told l.g l.video l.cursor))
     × (l.total ≡ length (first_lines l.g l.video l.cursor (picture_told l.g l.video l.cursor) l.k))
     × (l.total ≤ 8256 * l.k) × (length l.bytes ≡ 8256)
-
-abbrev pub decreases-loop-k : goal.decreases-loop-k
-decreases-loop-k l = 1025 - l.k

@@ -1,5 +1,5 @@
 -- Each line is stored where those before it end, so that together they are the text.
-use Prim.Native.Nat.{◌-◌, ◌≤◌}
+use Prim.Native.Nat.{◌≤◌}
 use mathlib.Core.Path.{◌≡◌}
 use lib.ListN.{length}
 use lib.Seq.{sets}
@@ -9,9 +9,6 @@ use Rattle.outputs.proofs.whole.put_lines.Given as goal
 
 abbrev pub invariant-loop-k : goal.invariant-loop-k
 invariant-loop-k l =
-    (l.k ≤ 1025) × (l.k ≤ lines_for (picture_told l.g l.video l.cursor))
+    (l.k ≤ lines_for (picture_told l.g l.video l.cursor))
     × (l.at ≡ length (first_lines l.g l.video l.cursor (picture_told l.g l.video l.cursor) l.k))
     × (l.out ≡ sets l.initial.out 0 (first_lines l.g l.video l.cursor (picture_told l.g l.video l.cursor) l.k)) × (length l.bytes ≡ 8256)
-
-abbrev pub decreases-loop-k : goal.decreases-loop-k
-decreases-loop-k l = 1025 - l.k
