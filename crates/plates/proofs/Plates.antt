@@ -1,19 +1,16 @@
--- A plate put together by its sections, and what writing it tells.
+-- A plate put together by its sections.
 use mathlib.Core.Path.{◌≡◌, ◌∙◌, ap}
 use mathlib.Core.List.{List, ◌++◌, append_assoc}
-use Prim.Native.Nat.{ℕ, ◌+◌, ◌*◌, ◌-◌, ◌≤◌, ◌<◌}
+use Prim.Native.Nat.{ℕ, ◌+◌, ◌*◌, ◌-◌, ◌≤◌}
 use native.Mathlib.Omega.{arith}
 use lib.ListN.{length, length-append}
 use lib.Seq.{sets, length-sets}
-use borrow.Author.Tests.{lt-ltb, le-ltb}
 use Rattle.buffers.specs.Put.{text_in}
 use Rattle.buffers.specs.Words.{bytes_of}
 use Rattle.buffers.proofs.Sets.{sets_append}
 use Rattle.buffers.proofs.Turns.{bytes_fit}
 use Rattle.buffers.proofs.Words.{bytes_append, length_bytes}
-use Rattle.refusals.specs.Table.{why, given, refused, unless_refused}
-use Rattle.plates.specs.Plate.{most_bytes, trailer_of, plate_of, plate_length}
-use Rattle.plates.specs.Write.{write_told}
+use Rattle.plates.specs.Plate.{trailer_of, plate_of, plate_length}
 
 -- a section stored where the ones before it end, with room for it
 section :
@@ -51,29 +48,3 @@ module _ (rs vs cs ss : List ℕ) where
       let q5 = section o o4 o5 (((rs ++ vs) ++ cs) ++ ss) ts t q4 p5 (omega (arith, two, three, length-append ((rs ++ vs) ++ cs) ss))
       (omega (arith, ap length e)) in
       q5 ∙ simp (append_assoc, e)
-
-  pub write_large :
-      (out after : List ℕ) → 1048572 < length rs + length vs + length cs + length ss
-      → (refused (why 15 0) ≡ write_told rs vs cs ss (length out)) × (out ≡ unless_refused (write_told rs vs cs ss (length out)) out after)
-  unfolding write_told
-  write_large out after h =
-      let t = lt-ltb most_bytes (plate_length rs vs cs ss) (omega arith) in
-      (rw t, rw t)
-
-  pub write_short :
-      (out after : List ℕ) → length rs + length vs + length cs + length ss ≤ 1048572 → length out < plate_length rs vs cs ss
-      → (refused (why 13 0) ≡ write_told rs vs cs ss (length out)) × (out ≡ unless_refused (write_told rs vs cs ss (length out)) out after)
-  unfolding write_told
-  write_short out after h k =
-      let t = le-ltb most_bytes (plate_length rs vs cs ss) (omega arith) in
-      (rw (t, lt-ltb _ _ k), rw (t, lt-ltb _ _ k))
-
-  pub write_done :
-      (out after : List ℕ) → length rs + length vs + length cs + length ss ≤ 1048572 → plate_length rs vs cs ss ≤ length out
-      → after ≡ sets out 0 (plate_of rs vs cs ss)
-      → (given (plate_length rs vs cs ss) ≡ write_told rs vs cs ss (length out))
-      × (after ≡ unless_refused (write_told rs vs cs ss (length out)) out (sets out 0 (plate_of rs vs cs ss)))
-  unfolding write_told
-  write_done out after h k e =
-      let t = le-ltb most_bytes (plate_length rs vs cs ss) (omega arith) in
-      (rw (t, le-ltb _ _ k), rw (t, le-ltb _ _ k) e)

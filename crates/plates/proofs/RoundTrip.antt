@@ -1,5 +1,5 @@
 -- The round trip, over what the calls promise: `Post` is a call's `ensures` as the source states it.
-use mathlib.Core.Path.{◌≡◌, refl, sym, ◌∙◌, ap, subst}
+use mathlib.Core.Path.{◌≡◌, sym, ◌∙◌, ap, subst}
 use mathlib.Core.List.{List, ◌++◌}
 use Prim.Native.Nat.{ℕ, ◌+◌, ◌*◌, ◌/◌, ◌^◌, ◌≤◌}
 use native.Mathlib.Omega.{arith}
@@ -11,13 +11,12 @@ use contract.Lifetimes.{Lfts}
 use denote.Triple.Clauses.{AtExit}
 use Rattle.buffers.specs.Words.{Below}
 use Rattle.refusals.specs.Table.{Told, given, unless_refused}
-use Rattle.refusals.specs.Refusals.{answer_says}
+use Rattle.refusals.specs.Refusals.{says}
 use Rattle.plates.specs.Plate.{most_bytes, sections_by, plate_of, plate_length}
-use Rattle.plates.specs.Read.{read_says, read_told, copy_told, copied}
-use Rattle.plates.specs.Write.{write_says, write_told}
+use Rattle.plates.specs.Read.{read_told, copy_told, copied}
+use Rattle.plates.specs.Write.{write_told}
 use Rattle.plates.specs.declared.Sections.{Sections}
 use Rattle.plates.proofs.Calls.{right_given, right_ordered, right_short, copy_rows}
-use Rattle.plates.proofs.Plates.{write_done}
 use Rattle.plates.proofs.Written.{length_plate, plate_read, plate_copied}
 use Rattle.plates.proofs.Again.{cut_plate}
 use Rattle.plates.proofs.read.Kinds as read_kinds
@@ -32,12 +31,12 @@ pub record ReadsBack (file rs vs cs ss : List ℕ) : Type 0 where
   pub reading :
       (κs : Lfts 1) (a : Dens κs read_kinds.ps) (x : (res_t read_kinds.r κs).Denot) (s : AtExit (ended_of 1 read_kinds.ps read_kinds.r) κs)
       → read_reads.Post κs a x s → a.0.now ≡ file
-      → read_says x
+      → says x
       ≡ given (sections_by (length rs + (length vs + (length cs + length ss))) (length vs + (length cs + length ss)) (length cs + length ss) (length ss))
   pub copying :
       (κs : Lfts 2) (a : Dens κs copy_kinds.ps) (x : (res_t copy_kinds.r κs).Denot) (s : AtExit (ended_of 2 copy_kinds.ps copy_kinds.r) κs)
       → copy_reads.Post κs a x s → a.0.now ≡ file → length rs + (length vs + (length cs + length ss)) ≤ length a.1.0.now
-      → (answer_says x ≡ given tt) × (s.1.0.now ≡ sets a.1.0.now 0 (rs ++ vs ++ cs ++ ss))
+      → (says x ≡ given tt) × (s.1.0.now ≡ sets a.1.0.now 0 (rs ++ vs ++ cs ++ ss))
 
 -- copying out of a file that is read
 copied_told : (file : List ℕ) (sections : Sections) (n : ℕ) → read_told file ≡ given sections → sections.r ≤ n → copy_told file n ≡ given tt
@@ -46,7 +45,9 @@ copied_told file sections n e h = rw (copy_rows file n, e, le-ltb n sections.r h
 written_told :
     (rs vs cs ss out : List ℕ) → plate_length rs vs cs ss ≤ most_bytes → plate_length rs vs cs ss ≤ length out
     → write_told rs vs cs ss (length out) ≡ given (plate_length rs vs cs ss)
-written_told rs vs cs ss out fits room = sym (write_done rs vs cs ss out (sets out 0 (plate_of rs vs cs ss)) (omega arith) room refl).0
+unfolding write_told
+written_told rs vs cs ss out fits room =
+    rw (le-ltb most_bytes (plate_length rs vs cs ss) fits, le-ltb (length out) (plate_length rs vs cs ss) room)
 
 module _
     (rs vs cs ss : List ℕ) (br : Below (2 ^ 32) rs) (bv : Below (2 ^ 32) vs) (bc : Below (2 ^ 32) cs) (bs : Below (2 ^ 32) ss)
@@ -73,7 +74,7 @@ pub read_back_as_written :
     → Below (2 ^ 32) a.0.now → Below (2 ^ 32) a.1.0.now → Below (2 ^ 32) a.1.1.0.now → Below (2 ^ 32) a.1.1.1.0.now
     → plate_length a.0.now a.1.0.now a.1.1.0.now a.1.1.1.0.now ≤ most_bytes
     → plate_length a.0.now a.1.0.now a.1.1.0.now a.1.1.1.0.now ≤ length a.1.1.1.1.0.now
-    → (write_says x ≡ given (plate_length a.0.now a.1.0.now a.1.1.0.now a.1.1.1.0.now))
+    → (says x ≡ given (plate_length a.0.now a.1.0.now a.1.1.0.now a.1.1.1.0.now))
     × ReadsBack (take (plate_length a.0.now a.1.0.now a.1.1.0.now a.1.1.1.0.now) s.1.1.1.1.0.now)
     a.0.now a.1.0.now a.1.1.0.now a.1.1.1.0.now
 read_back_as_written κs a x s p br bv bc bs fits room =
@@ -101,7 +102,7 @@ pub written_again_the_same :
     (κw : Lfts 5) (a : Dens κw write_kinds.ps) (x : (res_t write_kinds.r κw).Denot) (s : AtExit (ended_of 5 write_kinds.ps write_kinds.r) κw)
     (file : List ℕ) (sections : Sections)
     → Below 256 file
-    → read_reads.Post κr b y t → b.0.now ≡ file → read_says y ≡ given sections
+    → read_reads.Post κr b y t → b.0.now ≡ file → says y ≡ given sections
     → copy_reads.Post κc d z u → d.0.now ≡ file → sections.r ≤ length d.1.0.now
     → write_reads.Post κw a x s
     → a.0.now ≡ slice (sections.registers / 4) (sections.video / 4) u.1.0.now
@@ -109,7 +110,7 @@ pub written_again_the_same :
     → a.1.1.0.now ≡ slice (sections.cursor / 4) (sections.sound / 4) u.1.0.now
     → a.1.1.1.0.now ≡ slice (sections.sound / 4) (sections.trailer / 4) u.1.0.now
     → length file ≤ length a.1.1.1.1.0.now
-    → (write_says x ≡ given (length file)) × (s.1.1.1.1.0.now ≡ sets a.1.1.1.1.0.now 0 file)
+    → (says x ≡ given (length file)) × (s.1.1.1.1.0.now ≡ sets a.1.1.1.1.0.now 0 file)
 written_again_the_same κr b y t κc d z u κw a x s file sections small pr er accepted pc ed room pw e0 e1 e2 e3 fits =
     let rs = a.0.now in
     let vs = a.1.0.now in

@@ -2,17 +2,9 @@
 use Rattle.std.specs.Prelude.{ℕ, ◌*◌, not, List, [], ◌∷◌, ◌++◌, length, take, ltb}
 use Rattle.std.proofs.lemmas.List.Edits.{sets}
 use Rattle.buffers.specs.Words.{words_of}
-use Rattle.refusals.specs.Table.{Told, Row, row, judged, given, unless_refused}
-use Rattle.refusals.specs.Refusals.{refusal}
+use Rattle.refusals.specs.Table.{Told, Row, row, judged, unless_refused}
 use Rattle.plates.specs.Plate.{r_of, right, sections_of}
 use Rattle.plates.specs.declared.Sections.{Sections}
-use Rattle.plates.specs.declared.Reading.{Reading}
-use Rattle.plates.specs.declared.Reading.TheVariants.{Plate, Refused}
-
--- An answer as the paper has it.
-abbrev pub read_says : Reading → Told Sections
-read_says (Plate sections) = given sections
-read_says (Refused why) = refusal why
 
 abbrev pub read_table : List ℕ → List Row
 read_table file = row 14 (not (right file)) 0 ∷ []

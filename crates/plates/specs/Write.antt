@@ -1,16 +1,8 @@
 -- Writing a plate of four lists: 15, then 13; the length written is given.
 use Rattle.std.specs.Prelude.{ℕ, List, [], ◌∷◌, ltb, length}
 use Rattle.std.proofs.lemmas.List.Edits.{sets}
-use Rattle.refusals.specs.Table.{Told, Row, row, judged, given, unless_refused}
-use Rattle.refusals.specs.Refusals.{refusal}
+use Rattle.refusals.specs.Table.{Told, Row, row, judged, unless_refused}
 use Rattle.plates.specs.Plate.{most_bytes, plate_of, plate_length}
-use Rattle.plates.specs.declared.Writing.{Writing}
-use Rattle.plates.specs.declared.Writing.TheVariants.{Bytes, Refused}
-
--- An answer as the paper has it.
-abbrev pub write_says : Writing → Told ℕ
-write_says (Bytes n) = given n
-write_says (Refused why) = refusal why
 
 -- Writing into a list of some bytes.
 abbrev pub write_table : List ℕ → List ℕ → List ℕ → List ℕ → ℕ → List Row

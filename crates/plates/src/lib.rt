@@ -5,14 +5,14 @@ mod words;
 
 ghost use Rattle.std.specs.Prelude.{◌≡◌, ◌≤◌, length};
 ghost use Rattle.std.proofs.lemmas.List.Edits.{sets};
-ghost use Rattle.refusals.specs.Refusals.{answer_says};
+ghost use Rattle.refusals.specs.Refusals.{says};
 ghost use Rattle.plates.specs.Plate.{most_bytes, plate_of, plate_length, sections_by};
-ghost use Rattle.plates.specs.Read.{read_says, read_told, copy_told, copy_leaves};
+ghost use Rattle.plates.specs.Read.{read_told, copy_told, copy_leaves};
 ghost use Rattle.plates.specs.inner.Trailer.{trailer_told};
-ghost use Rattle.plates.specs.Write.{write_says, write_told, write_leaves};
+ghost use Rattle.plates.specs.Write.{write_told, write_leaves};
 
 use buffers::{copy_words, put_words};
-use refusals::{Answer, Refusal};
+use refusals::{Refusal, refuse_if};
 use words::word_at;
 
 // The most bytes that a plate may have.
@@ -37,19 +37,6 @@ pub struct Sections {
     pub s: u32,
 }
 
-#[derive(Clone, Copy)]
-pub enum Reading {
-    Plate(Sections),
-    Refused(Refusal),
-}
-
-#[derive(Clone, Copy)]
-pub enum Writing {
-    // how many bytes were written
-    Bytes(usize),
-    Refused(Refusal),
-}
-
 // The starts that a trailer gives.
 fn starts(r: u32, v: u32, c: u32, s: u32) -> Sections
     requires { (v ≤ r) × (c ≤ r) × (s ≤ r) }
@@ -61,56 +48,51 @@ fn starts(r: u32, v: u32, c: u32, s: u32) -> Sections
         cursor: 4 * (r - c) as usize,
         sound: 4 * (r - s) as usize,
         trailer: 4 * r as usize,
-        r: r,
-        v: v,
-        c: c,
-        s: s,
+        r,
+        v,
+        c,
+        s,
     }
 }
 
 // The sections of a file that is long enough for a trailer.
-fn read_trailer(file: &[u8]) -> Reading
+fn read_trailer(file: &[u8]) -> Result<Sections, Refusal>
     requires { 16 ≤ length file.now }
-    ensures { read_says result ≡ trailer_told file.now }
+    ensures { says result ≡ trailer_told file.now }
 {
     let n = file.len();
     let r = word_at(file, n - 16);
     let v = word_at(file, n - 12);
     let c = word_at(file, n - 8);
     let s = word_at(file, n - 4);
-    if (v <= r) & (c <= v) & (s <= c) & (4 * (r as u64) + 16 == n as u64) {
-        return Reading::Plate(starts(r, v, c, s));
+    if (v <= r) & (c <= v) & (s <= c) & (4 * u64::from(r) + 16 == n as u64) {
+        return Ok(starts(r, v, c, s));
     }
-    Reading::Refused(Refusal::PlateFile)
+    Err(Refusal::PlateFile)
 }
 
 // A file judged: where its sections and its trailer start, or 14.
-pub fn read(file: &[u8]) -> Reading
-    ensures { read_says result ≡ read_told file.now }
+#[tactic(auto, unfolding(crate::specs::Read::read_told))]
+pub fn read(file: &[u8]) -> Result<Sections, Refusal>
+    ensures { says result ≡ read_told file.now }
 {
     let n = file.len();
     if (16 <= n) & (n <= MOST_BYTES) {
         return read_trailer(file);
     }
-    Reading::Refused(Refusal::PlateFile)
+    Err(Refusal::PlateFile)
 }
 
 // All words before the trailer, in order, copied into lent memory; or 14, then 13.
-pub fn copy_out(file: &[u8], out: &mut [u32]) -> Answer
-    ensures { (answer_says result ≡ copy_told file.now (length out.old))
-        × (out.new ≡ copy_leaves file.now out.old) }
+#[tactic(auto, using(refusals::proofs::Told::handed_on, crate::proofs::Calls::copy_rows, crate::proofs::Calls::given_r))]
+pub fn copy_out(file: &[u8], out: &mut [u32]) -> Result<(), Refusal>
+    ensures told { says result ≡ copy_told file.now (length out.old) }
+    ensures left { out.new ≡ copy_leaves file.now out.old }
 {
-    match read(file) {
-        Reading::Refused(why) => Answer::Refused(why),
-        Reading::Plate(sections) => {
-            let count = sections.r as usize;
-            if out.len() < count {
-                return Answer::Refused(Refusal::Short);
-            }
-            copy_words(file, count, out);
-            Answer::Done
-        }
-    }
+    let count = read(file)?.r as usize;
+    refuse_if(out.len() < count, Refusal::Short)?;
+    copy_words(file, count, out);
+    Ok(())
 }
 
 // The plate of four lists, stored from the first byte on.
@@ -133,29 +115,23 @@ fn put_plate(registers: &[u32], video: &[u32], cursor: &[u32], sound: &[u32], ou
 }
 
 // A plate written from its four lists: its length in bytes; or 15, then 13.
+#[tactic(auto, using(refusals::proofs::Told::handed_on), unfolding(crate::specs::Write::write_told))]
 pub fn write(
     registers: &[u32],
     video: &[u32],
     cursor: &[u32],
     sound: &[u32],
     out: &mut [u8],
-) -> Writing
-    ensures { (write_says result
-        ≡ write_told registers.now video.now cursor.now sound.now (length out.old))
-        × (out.new
-        ≡ write_leaves registers.now video.now cursor.now sound.now out.old) }
+) -> Result<usize, Refusal>
+    ensures told { says result
+        ≡ write_told registers.now video.now cursor.now sound.now (length out.old) }
+    ensures left { out.new
+        ≡ write_leaves registers.now video.now cursor.now sound.now out.old }
 {
-    let r = registers.len();
-    let v = video.len();
-    let c = cursor.len();
-    let s = sound.len();
-    if MOST_WORDS < r + v + c + s {
-        return Writing::Refused(Refusal::TooLarge);
-    }
-    let n = 4 * (r + v + c + s) + 16;
-    if out.len() < n {
-        return Writing::Refused(Refusal::Short);
-    }
+    let words = registers.len() + video.len() + cursor.len() + sound.len();
+    refuse_if(MOST_WORDS < words, Refusal::TooLarge)?;
+    let size = 4 * words + 16;
+    refuse_if(out.len() < size, Refusal::Short)?;
     put_plate(registers, video, cursor, sound, out);
-    Writing::Bytes(n)
+    Ok(size)
 }
