@@ -83,7 +83,7 @@ module _ (g : Registers) (cells camera : List ℕ) where
   unfolding mix_told
   mix_told_holds room = refl
 
-  mix_then : (room : ℕ) → mix_told g cells camera room ≡ and_then (check_told g) (λ s. judged (mix_rows s.n.0 cells camera room) tt)
+  pub mix_then : (room : ℕ) → mix_told g cells camera room ≡ and_then (check_told g) (λ s. judged (mix_rows s.n.0 cells camera room) tt)
   mix_then room = mix_told_holds room ∙ check_then g (λ s. mix_rows s.n.0 cells camera room) (λ s. tt)
 
   module _ (o : List ℕ) where
