@@ -1,7 +1,6 @@
 // A picture's bytes read back into colours: the inverse of `guns`.
-ghost use Rattle.std.specs.Prelude.{◌≡◌, ◌*◌, ◌≤◌, ◌&&◌, true, fold, length};
+ghost use Rattle.std.specs.Prelude.{◌≡◌, ◌/◌, ◌≤◌, ◌&&◌, true, fold, length};
 ghost use Rattle.buffers.specs.Painted.{painted};
-ghost use Rattle.pictures.specs.Each.{each};
 ghost use Rattle.pictures.specs.Read.{is_gun, colour_read, colour_read_at, read_right, read_leaves};
 
 // Whether each byte is 17 times a gun: nothing ends this early, so that the machine takes many at once.
@@ -17,12 +16,12 @@ fn colour_read(r: u8, g: u8, b: u8) -> u16
     u16::from(r / 17) + 16 * u16::from(g / 17) + 256 * u16::from(b / 17)
 }
 
-// The colours of n threes, from the first place on.
-fn put_colours(out: &mut [u16], bytes: &[u8], n: usize)
-    requires { (3 * n ≤ length bytes.now) × (n ≤ length out.old) }
-    ensures { out.new ≡ painted out.old 0 n (colour_read_at bytes.now) }
+// The colours of all whole threes, from the first place on.
+fn put_colours(out: &mut [u16], bytes: &[u8])
+    requires { length bytes.now / 3 ≤ length out.old }
+    ensures { out.new ≡ painted out.old 0 (length bytes.now / 3) (colour_read_at bytes.now) }
 {
-    for k in 0..n {
+    for k in 0..bytes.len() / 3 {
         out[k] = colour_read(bytes[3 * k], bytes[3 * k + 1], bytes[3 * k + 2]);
     }
 }
@@ -32,9 +31,8 @@ pub fn colours(bytes: &[u8], out: &mut [u16]) -> bool
     ensures { (result ≡ read_right bytes.now (length out.old))
         × (out.new ≡ read_leaves bytes.now out.old) }
 {
-    let n = bytes.len() / 3;
-    if all_guns(bytes) & (bytes.len() % 3 == 0) & (n <= out.len()) {
-        put_colours(out, bytes, n);
+    if all_guns(bytes) & (bytes.len() % 3 == 0) & (bytes.len() / 3 <= out.len()) {
+        put_colours(out, bytes);
         return true;
     }
     false
