@@ -8,53 +8,50 @@ use lib.Dec.{ltb}
 use lib.ListN.{length, length-take, length-drop}
 use lib.Seq.{sets, length-sets}
 use borrow.Author.Tests.{lt-ltb, le-ltb, ltb-false}
-use Rattle.refusals.specs.Table.{Why, why, Told, given, refused, row, judged, unless_refused, Passes}
-use Rattle.refusals.specs.Refusals.{refusal, answer_says}
-use Rattle.refusals.specs.declared.Refusal.{Refusal}
-use Rattle.refusals.specs.declared.Answer.TheVariants as answer
-use Rattle.refusals.proofs.Tables.{passed, given_passes}
+use Rattle.refusals.specs.Table.{Why, why, Told, given, refused, row, judged, and_then, Passes}
+use Rattle.refusals.proofs.Tables.{passed, given_passes, judged_then, never}
 use Rattle.plates.specs.Plate.{right, r_of}
-use Rattle.plates.specs.Read.{read_says, read_told, copy_told, copied}
+use Rattle.plates.specs.Read.{read_told, copy_table, copy_told, copied}
 use Rattle.plates.specs.declared.Sections.{Sections}
-use Rattle.plates.specs.declared.Reading.{Reading}
-use Rattle.plates.specs.declared.Reading.TheVariants as reading
 use Rattle.plates.proofs.Rule.{Ordered}
 use Rattle.plates.proofs.Calls.{Right, right_given, right_ordered, copy_refused}
-use Rattle.sheets.specs.Sheet.{part, register_words, video_list, cursor_list, sound_list, parts_of, no_parts}
-use Rattle.sheets.specs.Input.{most_input, input_table, input_told, input_parts, input_leaves}
+use Rattle.sheets.specs.Sheet.{part, register_words, video_list, cursor_list, sound_list, parts_of, take_told}
+use Rattle.sheets.specs.Input.{most_input, input_table, input_told, take_input_told, input_leaves}
 use Rattle.sheets.specs.declared.Parts.{Parts}
-use Rattle.sheets.specs.declared.Taken.{Taken}
 use Rattle.sheets.proofs.Sections.{held_registers, held_video, held_cursor, held_sound}
 
--- what is told, the parts and the lent words, where a plate is refused and where it is not
-module _ (t a : Told (Unit {0})) (p q : Parts) (words new after : List ℕ) where
-  pub not_taken : (w : Why) → t ≡ refused w → a ≡ refused w → p ≡ no_parts → new ≡ words
-      → (a ≡ t) × (p ≡ unless_refused t no_parts q) × (new ≡ unless_refused t words after)
-  not_taken w e f g h = (f ∙ sym e, g ∙ rw e, h ∙ rw e)
+-- a plate that is not refused has its parts, and one that is refused has none
+pub take_then : (file : List ℕ) (places : ℕ) → take_told file places ≡ and_then (copy_told file places) (λ _. given (parts_of file))
+unfolding take_told copy_told
+take_then file places = judged_then tt (parts_of file) (copy_table file places)
 
-  pub is_taken : t ≡ given tt → a ≡ given tt → p ≡ q → new ≡ after
-      → (a ≡ t) × (p ≡ unless_refused t no_parts q) × (new ≡ unless_refused t words after)
-  is_taken e f g h = (f ∙ sym e, g ∙ rw e, h ∙ rw e)
+pub input_then : (file : List ℕ) → take_input_told file ≡ and_then (input_told file) (λ _. given (parts_of file))
+unfolding take_input_told input_told
+input_then file = judged_then tt (parts_of file) (input_table file)
 
 -- the parts, field by field
 parts_eta : (z : Parts) (v c s e : ℕ) → z.video ≡ v → z.cursor ≡ c → z.sound ≡ s → z.end ≡ e
     → z ≡ record { video = v; cursor = c; sound = s; end = e }
 parts_eta z v c s e j k l m = rw (← j, ← k, ← l, ← m)
 
--- a file that was read, and its words copied out
-module _ (file words : List ℕ) (x : Reading) (e : read_says x ≡ read_told file) where
-  pub take_unread : (why : Refusal) → x ≡ reading.Refused why → copy_told file (length words) ≡ refusal why
-  take_unread why q = sym (copy_refused file _ words words (sym (ap read_says q) ∙ e)).0
+-- a file that was read
+module _ (file : List ℕ) (p : Sections) (e : given p ≡ read_told file) where
+  found : Right file p
+  found = right_given file p e
 
-  module _ (p : Sections) (q : x ≡ reading.Plate p) where
-    found : Right file p
-    found = right_given file p (sym (ap read_says q) ∙ e)
+  pub in_order : Ordered (length file) p.r p.v p.c p.s
+  in_order = rw found.are (right_ordered file found.is_right)
 
-    pub in_order : Ordered (length file) p.r p.v p.c p.s
-    in_order = rw found.are (right_ordered file found.is_right)
+  pub parts_are : (z : Parts) → z.video ≡ p.r - p.v → z.cursor ≡ p.r - p.c → z.sound ≡ p.r - p.s → z.end ≡ p.r → z ≡ parts_of file
+  parts_are z j k l m = parts_eta z (p.r - p.v) (p.r - p.c) (p.r - p.s) p.r j k l m ∙ rw found.are
 
-    pub parts_are : (z : Parts) → z.video ≡ p.r - p.v → z.cursor ≡ p.r - p.c → z.sound ≡ p.r - p.s → z.end ≡ p.r → z ≡ parts_of file
-    parts_are z j k l m = parts_eta z (p.r - p.v) (p.r - p.c) (p.r - p.s) p.r j k l m ∙ rw found.are
+-- taken apart: refused with its reading, or given its parts
+module _ (file : List ℕ) where
+  pub take_unread : (words : List ℕ) (w : Why) → refused w ≡ read_told file → refused w ≡ take_told file (length words)
+  take_unread words w e = rw (take_then, ← (copy_refused file w words words e).0)
+
+  pub take_given : (places : ℕ) (p : Parts) → given tt ≡ copy_told file places → p ≡ parts_of file → given p ≡ take_told file places
+  take_given places p e q = rw (take_then, ← e, q)
 
 -- what comes in on standard input: too long, or taken apart with room for all its words
 module _ (file words : List ℕ) where
@@ -73,6 +70,12 @@ module _ (file words : List ℕ) where
   pub input_same : length file ≤ most_input → 16384 ≤ length words → input_told file ≡ copy_told file (length words)
   unfolding input_told copy_told
   input_same h k = rw (le-ltb most_input (length file) h) (roomy h k (right file) refl)
+
+  pub too_large : most_input < length file → (refused (why 15 0) ≡ take_input_told file) × (words ≡ input_leaves file words)
+  too_large h = (rw (input_then, input_large h), rw (input_large h))
+
+  pub input_taken : length file ≤ most_input → 16384 ≤ length words → take_told file (length words) ≡ take_input_told file
+  input_taken h k = rw (take_then, input_then, input_same h k)
 
 -- the parts of a plate, and its lists where they lie among the words
 pub record Held (file words : List ℕ) (p : Parts) : Type 0 where
@@ -121,29 +124,25 @@ module _ (file : List ℕ) (e : input_told file ≡ given tt) where
   unfolding sound_list
   few_sounds = rw (length-take, length-drop) (omega (arith, few_words))
 
-module _ (file o new : List ℕ) (z : Taken)
-    (t : (answer_says z.answer ≡ input_told file) × (z.parts ≡ input_parts file) × (new ≡ input_leaves file o)) where
-  pub input_given : z.answer ≡ answer.Done → input_told file ≡ given tt
-  input_given q = sym t.0 ∙ ap answer_says q
+-- what is taken apart, with its lists, as its caller has it
+module _ (file : List ℕ) (p : Parts) (t : given p ≡ take_input_told file) where
+  taken : (u : Told (Unit {0})) → input_told file ≡ u → given p ≡ and_then u (λ _. given (parts_of file))
+      → (input_told file ≡ given tt) × (p ≡ parts_of file)
+  taken (given _) e q = (e, cc)
+  taken (refused w) e q = never q
 
-  pub input_refused : (w : Refusal) → z.answer ≡ answer.Refused w → input_told file ≡ refusal w
-  input_refused w q = sym t.0 ∙ ap answer_says q
+  pub input_given : (input_told file ≡ given tt) × (p ≡ parts_of file)
+  input_given = taken (input_told file) refl (t ∙ input_then file)
 
-  pub input_held : 16384 ≤ length o → z.answer ≡ answer.Done → Held file new z.parts
-  input_held room q =
-      let g = input_given q in
-      let p : z.parts ≡ parts_of file = t.1 ∙ rw g in
-      let n : new ≡ sets o 0 (copied file) = t.2 ∙ rw g in
-      rw (p, n) (held file o (input_right file g) (omega (arith, few_words file g)))
+  pub input_held : (o new : List ℕ) → new ≡ input_leaves file o → 16384 ≤ length o → Held file new p
+  input_held o new left room =
+      let g = input_given.0 in
+      let n : new ≡ sets o 0 (copied file) = left ∙ rw g in
+      rw (input_given.1, n) (held file o (input_right file g) (omega (arith, few_words file g)))
 
-  -- what a caller that lends its words on needs: there are as many as before, and the lists are in order
-  pub input_length : length new ≡ length o
-  input_length = go (input_told file) t.2
-    where
-      go : (u : Told (Unit {0})) → new ≡ unless_refused u o (sets o 0 (copied file)) → length new ≡ length o
-      go (given _) e = ap length e ∙ length-sets o 0 (copied file)
-      go (refused w) e = ap length e
-
-  module _ (room : 16384 ≤ length o) (q : z.answer ≡ answer.Done) where
-    pub input_lists : (z.parts.video ≤ z.parts.cursor) × (z.parts.cursor ≤ z.parts.sound) × (z.parts.sound ≤ length new)
-    input_lists = let h = input_held room q in (h.video_first, h.cursor_first, omega (arith, h.sound_first, h.inside))
+pub input_refused : (file : List ℕ) (w : Why) → refused w ≡ take_input_told file → input_told file ≡ refused w
+input_refused file w t = go (input_told file) refl (t ∙ input_then file)
+  where
+    go : (u : Told (Unit {0})) → input_told file ≡ u → refused w ≡ and_then u (λ _. given (parts_of file)) → input_told file ≡ refused w
+    go (given _) e q = never (sym q)
+    go (refused v) e q = let same : w ≡ v = cc in e ∙ ap refused (sym same)

@@ -3,7 +3,7 @@ use Rattle.std.specs.Prelude.{ℕ, List, [], ◌∷◌, ◌++◌, ltb, length}
 use Rattle.std.proofs.lemmas.List.Edits.{sets}
 use Rattle.refusals.specs.Table.{Told, Row, row, judged, unless_refused}
 use Rattle.plates.specs.Read.{read_table, copied}
-use Rattle.sheets.specs.Sheet.{parts_of, no_parts}
+use Rattle.sheets.specs.Sheet.{parts_of}
 use Rattle.sheets.specs.declared.Parts.{Parts}
 
 abbrev pub most_input : ℕ
@@ -15,8 +15,9 @@ input_table file = (row 15 (ltb most_input (length file)) 0 ∷ []) ++ read_tabl
 unfoldable pub input_told : List ℕ → Told (Unit {0})
 input_told file = judged (input_table file) tt
 
-abbrev pub input_parts : List ℕ → Parts
-input_parts file = unless_refused (input_told file) no_parts (parts_of file)
+-- The same, with its parts where it is not refused.
+unfoldable pub take_input_told : List ℕ → Told Parts
+take_input_told file = judged (input_table file) (parts_of file)
 
 -- What the lent list holds afterwards.
 abbrev pub input_leaves : List ℕ → List ℕ → List ℕ

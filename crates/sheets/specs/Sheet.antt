@@ -1,11 +1,11 @@
 -- A plate file taken apart: its four lists, where they stand among all its words, and the record that its register words leave.
 use Rattle.std.specs.Prelude.{ℕ, ◌-◌, List, take, drop}
-use Rattle.refusals.specs.Table.{unless_refused}
+use Rattle.refusals.specs.Table.{Told, judged}
 use Rattle.registers.specs.Record.{fresh}
 use Rattle.registers.specs.Load.{applied}
 use Rattle.registers.specs.declared.record.Registers.{Registers}
 use Rattle.plates.specs.Plate.{r_of, v_of, c_of, s_of}
-use Rattle.plates.specs.Read.{copy_told, copied}
+use Rattle.plates.specs.Read.{copy_table, copied}
 use Rattle.sheets.specs.declared.Parts.{Parts}
 
 -- The words from one place up to another.
@@ -39,10 +39,6 @@ parts_of file =
       end = r_of file;
     }
 
--- What stands beside a refusal.
-abbrev pub no_parts : Parts
-no_parts = record { video = 0; cursor = 0; sound = 0; end = 0 }
-
 -- Taken apart into a list of some places: 14 and 13, as its words are copied out.
-abbrev pub take_parts : List ℕ → ℕ → Parts
-take_parts file places = unless_refused (copy_told file places) no_parts (parts_of file)
+unfoldable pub take_told : List ℕ → ℕ → Told Parts
+take_told file places = judged (copy_table file places) (parts_of file)

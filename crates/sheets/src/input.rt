@@ -1,22 +1,19 @@
 // A plate as it comes in on standard input, taken apart.
 ghost use Rattle.std.specs.Prelude.{◌≡◌};
-ghost use Rattle.refusals.specs.Refusals.{answer_says};
-ghost use Rattle.sheets.specs.Input.{input_told, input_parts, input_leaves};
+ghost use Rattle.refusals.specs.Refusals.{says};
+ghost use Rattle.sheets.specs.Input.{take_input_told, input_leaves};
 
-use crate::{Taken, not_taken, take};
-use refusals::Refusal;
+use crate::{Parts, take};
+use refusals::{Refusal, refuse_if};
 
 // The most bytes that standard input may have.
 const MOST_INPUT: usize = 65_536;
 
 // A plate taken apart, with room for the words of the longest: 15, 14.
-pub fn take_input(file: &[u8], words: &mut [u32; 16384]) -> Taken
-    ensures { (answer_says result.answer ≡ input_told file.now)
-        × (result.parts ≡ input_parts file.now)
-        × (words.new ≡ input_leaves file.now words.old) }
+pub fn take_input(file: &[u8], words: &mut [u32; 16384]) -> Result<Parts, Refusal>
+    ensures told { says result ≡ take_input_told file.now }
+    ensures left { words.new ≡ input_leaves file.now words.old }
 {
-    if MOST_INPUT < file.len() {
-        return not_taken(Refusal::TooLarge);
-    }
+    refuse_if(MOST_INPUT < file.len(), Refusal::TooLarge)?;
     take(file, words)
 }

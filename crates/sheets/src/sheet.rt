@@ -7,7 +7,7 @@ ghost use Rattle.sheets.specs.Lists.{Lists};
 
 use crate::Parts;
 use crate::input::take_input;
-use refusals::{Answer, Refusal};
+use refusals::Refusal;
 
 #[derive(Clone, Copy)]
 pub struct Sheet<'a> {
@@ -35,14 +35,11 @@ impl<'a> Sheet<'a> {
     }
 
     // The lists of a plate, in lent words that have room for those of the longest: 15, 14.
+    #[tactic(auto, using(crate::proofs::Sheets::input_refused))]
     pub fn of_input(file: &[u8], words: &'a mut [u32; 16384]) -> Result<Sheet<'a>, Refusal>
         ensures { MatchResult result (Lists file.now) (λ why. input_told file.now ≡ refusal why) }
     {
-        let taken = take_input(file, words);
-        let answer = taken.answer;
-        match answer {
-            Answer::Refused(why) => Err(why),
-            Answer::Done => Ok(Sheet::cut(words, taken.parts)),
-        }
+        let parts = take_input(file, words)?;
+        Ok(Sheet::cut(words, parts))
     }
 }

@@ -1,52 +1,28 @@
 -- A file that is no plate is refused with its reading, one that there is no room for with its copying; else the parts are those of its trailer.
-use mathlib.Core.Path.{refl, sym, ◌∙◌, ap}
+use mathlib.Core.Path.{refl, ◌∙◌}
 use native.Mathlib.Omega.{arith}
-use lib.ListN.{length}
-use lib.Seq.{sets}
-use Rattle.refusals.specs.Refusals.{answer_says}
-use Rattle.plates.specs.Read.{copy_told, copied}
-use Rattle.sheets.specs.Sheet.{parts_of}
-use Rattle.sheets.proofs.Sheets.{not_taken, is_taken, take_unread, in_order, parts_are}
+use Rattle.refusals.proofs.Told.{handed_on}
+use Rattle.sheets.proofs.Sheets.{in_order, parts_are, take_unread, take_given}
 use Rattle.sheets.proofs.take.Goals as goal
 
 pub overflow_sub-result : goal.overflow_sub-result
-overflow_sub-result c =
-    let read = c.read in
-    (in_order c.args.file.now c.args.words.now _ read.ensures _ c.in-Plate.is).v_r
+overflow_sub-result c = (in_order c.args.file.now _ c.in_ok-sections.ensures).v_r
 
-pub overflow_sub-result-in-Done : goal.overflow_sub-result-in-Done
-overflow_sub-result-in-Done c =
-    let read = c.read in
-    let o = in_order c.args.file.now c.args.words.now _ read.ensures _ c.in-Plate.is in
+pub overflow_sub-result-2 : goal.overflow_sub-result-2
+overflow_sub-result-2 c =
+    let o = in_order c.args.file.now _ c.in_ok-sections.ensures in
     omega (arith, o.v_r, o.c_v)
 
-pub overflow_sub-result-in-Done-2 : goal.overflow_sub-result-in-Done-2
-overflow_sub-result-in-Done-2 c =
-    let read = c.read in
-    let o = in_order c.args.file.now c.args.words.now _ read.ensures _ c.in-Plate.is in
+pub overflow_sub-result-3 : goal.overflow_sub-result-3
+overflow_sub-result-3 c =
+    let o = in_order c.args.file.now _ c.in_ok-sections.ensures in
     omega (arith, o.v_r, o.c_v, o.s_c)
 
-pub returns-in-Refused : goal.returns-in-Refused
-returns-in-Refused c =
-    let file = c.args.file.now in
-    let words = c.args.words.now in
-    let unread = take_unread file words _ c.read.ensures _ c.in-Refused.is in
-    let out = c.not_taken.ensures in
-    not_taken (copy_told file (length words)) _ _ (parts_of file) words words (sets words 0 (copied file)) _ unread out.0 out.1 refl
+pub returns-in_err-sections-clause-told : goal.returns-in_err-sections-clause-told
+returns-in_err-sections-clause-told c =
+    handed_on _ _ c.from_residual.ensures.1 ∙ take_unread c.args.file.now c.args.words.now _ c.in_err-sections.ensures
 
-pub returns-in-Refused-copy_out : goal.returns-in-Refused-copy_out
-returns-in-Refused-copy_out c =
-    let file = c.args.file.now in
-    let words = c.args.words.now in
-    let told = sym c.copy_out.ensures.0 ∙ ap answer_says c.in-Refused-copy_out.is in
-    let out = c.not_taken-in-Refused-copy_out.ensures in
-    not_taken (copy_told file (length words)) _ _ (parts_of file) words _ (sets words 0 (copied file)) _ told out.0 out.1
-    (c.copy_out.ensures.1 ∙ rw told)
-
-pub returns-in-Done : goal.returns-in-Done
-returns-in-Done c =
-    let file = c.args.file.now in
-    let words = c.args.words.now in
-    let told = sym c.copy_out.ensures.0 ∙ ap answer_says c.in-Done.is in
-    let parts = parts_are file words _ c.read.ensures _ c.in-Plate.is _ refl refl refl refl in
-    is_taken (copy_told file (length words)) _ _ (parts_of file) words _ (sets words 0 (copied file)) told refl parts (c.copy_out.ensures.1 ∙ rw told)
+pub returns-clause-told : goal.returns-clause-told
+returns-clause-told c =
+    take_given c.args.file.now _ _ c.in_ok-copy_out.ensures.told
+    (parts_are c.args.file.now _ c.in_ok-sections.ensures _ refl refl refl refl)
