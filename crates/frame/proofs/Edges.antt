@@ -8,10 +8,9 @@ use native.Mathlib.Omega.{arith}
 use borrow.Author.Tests.{lt-ltb, le-ltb, le-leb, lt-leb, eqb-false}
 use lib.Dec.{ltb, leb, eqb}
 use lib.ListN.{length, get_or}
-use Rattle.buffers.specs.Painted.{painted}
 use Rattle.buffers.proofs.Tests.{or_neither}
 use Rattle.buffers.proofs.Split.{lt_or_le, true_or_false, is_false}
-use Rattle.buffers.proofs.Paints.{Paints, paint_as, paint_next, paints_of, paints_painted}
+use Rattle.buffers.proofs.Paints.{Paints, paint_as, paint_next}
 use Rattle.registers.specs.declared.setting.Setting.{Setting}
 use Rattle.registers.specs.inner.Accepted.{Accepted}
 use Rattle.cells.specs.Cell.{within, in_display, in_border}
@@ -96,45 +95,31 @@ module _ (s : Setting) (pens : List ℕ) (first y : ℕ) (same : anew s first (y
   edged_next line edged = record { held = λ x h. edged.held x h ∙ sym (edge_next x) }
 
 -- What the fills make of a line.
-module _ (s : Setting) (r : Accepted s) (pens o : List ℕ) (y : ℕ) (room : s.n.0 ≤ length o) where
-  filled : {l m : List ℕ} (a b v : ℕ) → b ≤ length l → ((x : ℕ) → a ≤ x → x < b → v ≡ edge_ink s pens y x) → m ≡ painted l a b (λ k. v)
-      → Paints 0 l m a b (edge_ink s pens y)
-  filled a b v fits same e = paint_as (edge_ink s pens y) same (paints_of fits e)
+module _ (s : Setting) (r : Accepted s) (pens o : List ℕ) (y empty : ℕ) (room : length o ≡ 2048) (is : empty ≡ blank_of s y) where
+  synced : (p : List ℕ) → Paints 0 o p 0 s.hs.0 (λ x. empty + 8192) → Paints 0 o p 0 s.hs.0 (edge_ink s pens y)
+  synced p e = paint_as (edge_ink s pens y) (λ x a b. rw is (sym (sync_edge s pens x y b))) e
 
-  synced : (p : List ℕ) → p ≡ painted o 0 s.hs.0 (λ k. blank_of s y + 8192) → Paints 0 o p 0 s.hs.0 (edge_ink s pens y)
-  synced p e =
-      filled 0 s.hs.0 (blank_of s y + 8192) (omega (arith, r.hs_bs, r.bs_ds, r.ds_de, r.de_be, r.be_n))
-      (λ x a b. sym (sync_edge s pens x y b)) e
+  edged : (m : List ℕ) → Paints 0 o m 0 s.n.0 (edge_ink s pens y) → Edged s pens y m
+  edged m p = record { held = λ x h. p.on x (omega arith) h }
 
-  pub blank_line : (p m : List ℕ) (empty : ℕ) → within s.vbs.0 s.vbe.0 y ≡ false → empty ≡ blank_of s y
-      → p ≡ painted o 0 s.hs.0 (λ k. empty + 8192) → m ≡ painted p s.hs.0 s.n.0 (λ k. empty)
-      → m ≡ painted o 0 s.n.0 (edge_ink s pens y)
-  blank_line p m empty none e_empty e f =
-      let sync = synced p (simp e_empty at e) in
-      let rest = filled s.hs.0 s.n.0 (blank_of s y) (rw sync.len room)
-      (λ x a b. sym (blank_edge s pens x y a (λ i. true≢false (sym (true_within s.vbs.0 s.vbe.0 y i.above i.below) ∙ none))))
-      (simp e_empty at f) in
-      paints_painted {d = 0} room (paint_next {d = 0} (omega arith) (omega (arith, r.hs_bs, r.bs_ds, r.ds_de, r.de_be, r.be_n)) sync rest)
+  pub blank_line : (p m : List ℕ) → within s.vbs.0 s.vbe.0 y ≡ false
+      → Paints 0 o p 0 s.hs.0 (λ x. empty + 8192) → Paints 0 p m s.hs.0 s.n.0 (λ x. empty) → Edged s pens y m
+  blank_line p m none e f =
+      let out : (x : ℕ) → InBorder s x y → ⊥ = λ x i. true≢false (sym (true_within s.vbs.0 s.vbe.0 y i.above i.below) ∙ none) in
+      let rest = paint_as (edge_ink s pens y) (λ x a b. rw is (sym (blank_edge s pens x y a (out x)))) f in
+      edged m (paint_next {d = 0} (omega arith) (omega (arith, r.hs_bs, r.bs_ds, r.ds_de, r.de_be, r.be_n)) (synced p e) rest)
 
-  pub bordered_line : (p q t m : List ℕ) (empty : ℕ) → s.vbs.0 ≤ y → y < s.vbe.0 → empty ≡ blank_of s y
-      → p ≡ painted o 0 s.hs.0 (λ k. empty + 8192) → q ≡ painted p s.hs.0 s.bs.0 (λ k. empty)
-      → t ≡ painted q s.bs.0 s.be.0 (λ k. get_or pens 0 0) → m ≡ painted t s.be.0 s.n.0 (λ k. empty)
-      → m ≡ painted o 0 s.n.0 (edge_ink s pens y)
-  bordered_line p q t m empty above below e_empty e f g h =
-      let sync = synced p (simp e_empty at e) in
-      let before = filled s.hs.0 s.bs.0 (blank_of s y) (rw sync.len (omega (arith, r.bs_ds, r.ds_de, r.de_be, r.be_n)))
-      (λ x a b. sym (blank_edge s pens x y a (λ i. omega (arith, i.left))))
-      (simp e_empty at f) in
-      let border = filled s.bs.0 s.be.0 (get_or pens 0 0) (rw (before.len, sync.len) (omega (arith, r.be_n)))
-      (λ x a b. sym (border_edge s pens x y r (record { left = a; right = b; above = above; below = below })))
-      g in
-      let after = filled s.be.0 s.n.0 (blank_of s y) (rw (border.len, before.len, sync.len) room)
-      (λ x a b. sym (blank_edge s pens x y (omega (arith, r.hs_bs, r.bs_ds, r.ds_de, r.de_be)) (λ i. omega (arith, i.right))))
-      (simp e_empty at h) in
-      paints_painted {d = 0} room
+  pub bordered_line : (p q t m : List ℕ) → s.vbs.0 ≤ y → y < s.vbe.0
+      → Paints 0 o p 0 s.hs.0 (λ x. empty + 8192) → Paints 0 p q s.hs.0 s.bs.0 (λ x. empty)
+      → Paints 0 q t s.bs.0 s.be.0 (λ x. get_or pens 0 0) → Paints 0 t m s.be.0 s.n.0 (λ x. empty) → Edged s pens y m
+  bordered_line p q t m above below e f g h =
+      let ink = edge_ink s pens y in
+      let before = paint_as ink (λ x a b. rw is (sym (blank_edge s pens x y a (λ i. omega (arith, i.left))))) f in
+      let border = paint_as ink (λ x a b. sym (border_edge s pens x y r (record { left = a; right = b; above = above; below = below }))) g in
+      let after =
+      paint_as ink
+      (λ x a b. rw is (sym (blank_edge s pens x y (omega (arith, r.hs_bs, r.bs_ds, r.ds_de, r.de_be)) (λ i. omega (arith, i.right))))) h in
+      edged m
       (paint_next {d = 0} (omega arith) (omega (arith, r.be_n))
       (paint_next {d = 0} (omega arith) (omega (arith, r.bs_ds, r.ds_de, r.de_be))
-      (paint_next {d = 0} (omega arith) (omega (arith, r.hs_bs)) sync before) border) after)
-
-  pub edged_line : (m : List ℕ) → m ≡ painted o 0 s.n.0 (edge_ink s pens y) → Edged s pens y m
-  edged_line m e = record { held = λ x h. (paints_of {d = 0} room e).on x (omega arith) h }
+      (paint_next {d = 0} (omega arith) (omega (arith, r.hs_bs)) (synced p e) before) border) after)

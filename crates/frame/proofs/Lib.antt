@@ -1,3 +1,4 @@
+pub mod Parts
 pub mod Words
 pub mod ByteCells
 pub mod QuadCells

@@ -1,15 +1,15 @@
 -- Four cells of 16 bits added in 64: each is read back at its place.
-use Prim.Native.Nat.{ℕ, zero, suc, ◌+◌, ◌*◌, ◌-◌, ◌/◌, ◌%◌, ◌^◌, ◌<◌, ◌≤◌}
+use Prim.Native.Nat.{ℕ, zero, suc, ◌+◌, ◌*◌, ◌/◌, ◌%◌, ◌^◌, ◌<◌}
 use mathlib.Core.Path.{◌≡◌, refl, sym, ◌∙◌}
 use mathlib.Core.List.{List}
-use native.Mathlib.Nat.{div-one, mod-one, mul-one, add-zero, mod-lt, mod-eq_of_lt, mul-le-mul}
-use lib.Pow.{pow_mono}
+use native.Mathlib.Nat.{div-one, mod-one, mul-one, add-zero, mod-lt}
 use native.Mathlib.Omega.{arith}
-use lib.ListN.{length, get_or, set}
+use lib.ListN.{length, get_or, set, take, drop}
 use Rattle.buffers.specs.Painted.{painted}
-use Rattle.buffers.proofs.Paints.{Paints, paint_as, paint_none, paint_more, paint_next, paints_of, paints_painted}
-use Rattle.frame.specs.inner.Ink.{from, moved_ink, quad_cell, word_ink, words_ink}
 use Rattle.buffers.specs.Words.{byte_of}
+use Rattle.buffers.proofs.Paints.{paint_none, paint_more, paints_painted}
+use Rattle.cells.proofs.PixelPlaces.{past_bytes, past_pixels, byte_part}
+use Rattle.frame.specs.inner.Ink.{quad_cell, word_ink, words_ink}
 use Rattle.frame.specs.inner.Quads.{Cells, Joined, Quads, Four}
 use Rattle.frame.proofs.Words.{word_same}
 
@@ -90,116 +90,65 @@ module _ (quads : List ℕ) (joined : Joined quads) (w : ℕ) where
       cell (suc (suc (suc zero))) h = rw e (four cell_3 ∙ sym (word_cell quads w 3))
       cell (suc (suc (suc (suc j)))) h = absurd (omega arith)
 
--- The table of quads, as the machine makes it: 256 places moved up by no bits, then by 16, 32 and 48.
-module _ (table : List ℕ) (cells : Cells table) where
-  pub moved_stored : (b bits at : ℕ) → b < 256 → bits ≤ 48 → get_or table b 0 * 2 ^ bits % 2 ^ 64 ≡ from at (moved_ink table bits) (at + b)
-  unfolding from moved_ink
-  moved_stored b bits at h l =
-      let high : 2 ^ bits ≤ 281474976710656 = pow_mono {j = 48} l in
-      let low : get_or table b 0 ≤ 65535 = omega (arith, cells.small b h) in
-      let k : at + b - at ≡ b = omega arith in
-      rw k (mod-eq_of_lt (omega (arith, mul-le-mul {n₂ = 65535} {m₂ = 281474976710656} low high)))
+-- The table of quads, as the machine makes it: each byte's cell at its four places, none of which loses a bit.
+pub moved_fits : (x j : ℕ) → x < 65536 → j < 4 → x * 2 ^ (16 * j) < 2 ^ 64
+moved_fits x zero h l = omega (arith, mul-one x)
+moved_fits x (suc zero) h l = omega arith
+moved_fits x (suc (suc zero)) h l = omega arith
+moved_fits x (suc (suc (suc zero))) h l = omega arith
+moved_fits x (suc (suc (suc (suc j)))) h l = absurd (omega arith)
 
-  module _ (o p q r s : List ℕ) (room : 1024 ≤ length o)
-      (e : p ≡ painted o 0 (0 + 256) (from 0 (moved_ink table 0))) (f : q ≡ painted p 256 (256 + 256) (from 256 (moved_ink table 16)))
-      (g : r ≡ painted q 512 (512 + 256) (from 512 (moved_ink table 32))) (h : s ≡ painted r 768 (768 + 256) (from 768 (moved_ink table 48))) where
-    first : Paints 0 o p 0 256 (from 0 (moved_ink table 0))
-    first = paints_of (omega arith) e
+-- The places of the bytes below b hold what they should.
+abbrev pub Placed : List ℕ → List ℕ → ℕ → Type 0
+Placed table quads n = (j b : ℕ) → j < 4 → b < n → get_or quads (256 * j + b) 0 ≡ get_or table b 0 * 2 ^ (16 * j)
 
-    second : Paints 0 p q 256 512 (from 256 (moved_ink table 16))
-    second = paints_of (omega (arith, first.len)) f
-
-    third : Paints 0 q r 512 768 (from 512 (moved_ink table 32))
-    third = paints_of (omega (arith, second.len, first.len)) g
-
-    fourth : Paints 0 r s 768 1024 (from 768 (moved_ink table 48))
-    fourth = paints_of (omega (arith, third.len, second.len, first.len)) h
-
-    same : (b : ℕ) → b < 256 → get_or s b 0 ≡ get_or table b 0
-    unfolding from moved_ink
+pub quads_right : (table quads : List ℕ) → Cells table → Placed table quads 256 → Quads table quads
+quads_right table quads cells placed =
+    record {
+      joined = record { small = λ b l. rw (same b l) (cells.small b l); moved = λ j b h l. rw (same b l) (placed j b h l) };
+      same = same;
+    }
+  where
+    same : (b : ℕ) → b < 256 → get_or quads b 0 ≡ get_or table b 0
     same b l =
-        let k : b - 0 ≡ b = omega arith in
-        let one : get_or table (b - 0) 0 * 2 ^ 0 ≡ get_or table b 0 = rw (k, mul-one (get_or table b 0)) in
-        fourth.low b (omega arith) ∙ third.low b (omega arith) ∙ second.low b (omega arith) ∙ first.on b (omega arith) l ∙ one
-
-    back : (start bits b : ℕ) → b < 256 → from start (moved_ink table bits) (start + b) ≡ get_or s b 0 * 2 ^ bits
-    unfolding from moved_ink
-    back start bits b l = let k : start + b - start ≡ b = omega arith in rw (k, same b l)
-
-    moved : (j b : ℕ) → j < 4 → b < 256 → get_or s (256 * j + b) 0 ≡ get_or s b 0 * 2 ^ (16 * j)
-    moved zero b h l = let k : 256 * 0 + b ≡ b = omega arith in rw (k, mul-one (get_or s b 0))
-    moved (suc zero) b h l =
-        fourth.low (256 + b) (omega arith) ∙ third.low (256 + b) (omega arith) ∙ second.on (256 + b) (omega arith) (omega arith) ∙ back 256 16 b l
-    moved (suc (suc zero)) b h l = fourth.low (512 + b) (omega arith) ∙ third.on (512 + b) (omega arith) (omega arith) ∙ back 512 32 b l
-    moved (suc (suc (suc zero))) b h l = fourth.on (768 + b) (omega arith) (omega arith) ∙ back 768 48 b l
-    moved (suc (suc (suc (suc j)))) b h l = absurd (omega arith)
-
-    pub quads_right : Quads table s
-    quads_right = record { joined = record { small = λ b l. rw (same b l) (cells.small b l); moved = moved }; same = same }
+        let k : 256 * 0 + b ≡ b = omega arith in
+        let e : get_or table b 0 * 2 ^ (16 * 0) ≡ get_or table b 0 = mul-one (get_or table b 0) in
+        rw (k, e) at (placed 0 b (omega arith) l)
 
 -- Four stores one after the other.
-place_0 : (x : ℕ) → x % 65536 ≡ quad_cell x 0
-unfolding quad_cell
-place_0 x = let e : 2 ^ (16 * 0) ≡ 1 = refl in rw (e, div-one x)
-
 place : (x j : ℕ) → x / 2 ^ (16 * j) % 65536 ≡ quad_cell x j
 unfolding quad_cell
 place x j = refl
 
-module _ (x at : ℕ) (o : List ℕ) (room : at + 4 ≤ length o) where
-  cell_put : {m : List ℕ} (j v : ℕ) → j < 4 → v ≡ quad_cell x j → Paints 0 o m at (at + j) (from at (quad_cell x))
-      → Paints 0 o (set m (at + j) v) at (at + (j + 1)) (from at (quad_cell x))
-  unfolding from
-  cell_put {m} j v h e p =
-      let k : at + j - at ≡ j = omega arith in
-      let n : at + j + 1 ≡ at + (j + 1) = omega arith in
-      rw n at (paint_more {d = 0} {f = from at (quad_cell x)} v (omega arith) (omega arith) (rw k e) p)
+place_0 : (x : ℕ) → x % 65536 ≡ quad_cell x 0
+unfolding quad_cell
+place_0 x = let e : 2 ^ (16 * 0) ≡ 1 = refl in rw (e, div-one x)
 
-  first_put : Paints 0 o (set o at (x % 65536)) at (at + 1) (from at (quad_cell x))
-  unfolding from
-  first_put =
-      let k : at - at ≡ 0 = omega arith in
-      paint_more {d = 0} {f = from at (quad_cell x)} (x % 65536) (omega arith) (omega arith) (rw k (place_0 x)) (paint_none at (from at (quad_cell x)))
+pub quad_put : (x : ℕ) (o : List ℕ) → length o ≡ 4
+    → set (set (set (set o 0 (x % 65536)) 1 (x / 2 ^ 16 % 65536)) 2 (x / 2 ^ 32 % 65536)) 3 (x / 2 ^ 48 % 65536) ≡ painted o 0 4 (quad_cell x)
+quad_put x o room =
+    paints_painted {d = 0} {f = quad_cell x} (omega arith)
+    (paint_more {d = 0} {f = quad_cell x} (x / 2 ^ 48 % 65536) (omega arith) (omega arith) (place x 3)
+    (paint_more {d = 0} {f = quad_cell x} (x / 2 ^ 32 % 65536) (omega arith) (omega arith) (place x 2)
+    (paint_more {d = 0} {f = quad_cell x} (x / 2 ^ 16 % 65536) (omega arith) (omega arith) (place x 1)
+    (paint_more {d = 0} {f = quad_cell x} (x % 65536) (omega arith) (omega arith) (place_0 x) (paint_none 0 (quad_cell x))))))
 
-  pub quad_put : set (set (set (set o at (x % 65536)) (at + 1) (x / 2 ^ 16 % 65536)) (at + 2) (x / 2 ^ 32 % 65536)) (at + 3) (x / 2 ^ 48 % 65536)
-      ≡ painted o at (at + 4) (from at (quad_cell x))
-  quad_put =
-      paints_painted {d = 0} room
-      (cell_put 3 (x / 2 ^ 48 % 65536) (omega arith) (place x 3)
-      (cell_put 2 (x / 2 ^ 32 % 65536) (omega arith) (place x 2) (cell_put 1 (x / 2 ^ 16 % 65536) (omega arith) (place x 1) first_put)))
+-- The cells of word q of a list.
+pub quad_same : (quads ws : List ℕ) (q x j : ℕ) → Four quads (get_or ws q 0) x → j < 4 → quad_cell x j ≡ words_ink quads ws 1 (4 * q + j)
+quad_same quads ws q x j four h =
+    let e : q * (4 * 1) + j ≡ 4 * q + j = omega arith in
+    rw (← e) (four.cell j h ∙ word_same quads ws 1 q j h)
 
--- They are the cells of word q of a list, at its place.
-module _ (quads ws : List ℕ) (at q : ℕ) where
-  pub quad_placed : (p r : List ℕ) (x : ℕ) → Four quads (get_or ws q 0) x → at + 4 * q + 4 ≤ length p
-      → r ≡ painted p (at + 4 * q) (at + 4 * q + 4) (from (at + 4 * q) (quad_cell x))
-      → r ≡ painted p (at + 4 * q) (at + 4 * q + 4) (from at (words_ink quads ws 1))
-  unfolding from
-  quad_placed p r x four room e =
-      paints_painted {d = 0} {f = from at (words_ink quads ws 1)} room
-      (paint_as (from at (words_ink quads ws 1))
-      (λ i a b. four.cell (i - (at + 4 * q)) (omega arith) ∙ word_same quads ws 1 at q (at + 4 * q) (omega arith) i a b)
-      (paints_of {d = 0} {f = from (at + 4 * q) (quad_cell x)} room e))
-
-  -- One word more is painted.
-  pub quad_turn : (o p r : List ℕ) (a n : ℕ) → n ≡ q + 1 → a ≤ at + 4 * q → at + 4 * q + 4 ≤ length o
-      → Paints 0 o p a (at + 4 * q) (from at (words_ink quads ws 1))
-      → r ≡ painted p (at + 4 * q) (at + 4 * q + 4) (from at (words_ink quads ws 1)) → Paints 0 o r a (at + 4 * n) (from at (words_ink quads ws 1))
-  quad_turn o p r a n next order room so_far e =
-      let k : at + 4 * q + 4 ≡ at + 4 * n = omega arith in
-      rw k at
-      (paint_next {d = 0} {f = from at (words_ink quads ws 1)} order (omega arith) so_far
-      (paints_of {d = 0} {f = from at (words_ink quads ws 1)} (omega (arith, so_far.len)) e))
+-- Those of a part of a list, from word q on, are those of the list.
+pub part_same : (quads ws : List ℕ) (q m a j : ℕ) → a ≡ 4 * q → j < 4 * m → words_ink quads (take m (drop q ws)) 1 j ≡ words_ink quads ws 1 (a + j)
+unfolding words_ink
+part_same quads ws q m a j start h =
+    let b : j / 1 < m * 4 = rw (div-one j) (omega arith) in
+    let e : a + j ≡ q * 4 * 1 + j = omega arith in
+    rw (past_bytes (a + j) 1 (q * 4) j e (omega arith), past_pixels (a + j) 1 (q * 4) j e, byte_part ws q m (j / 1) b)
 
 -- A word's cells from the table of quads are those from the table of bytes.
-pub quads_shown : (table quads p r ws : List ℕ) (at : ℕ) → Quads table quads → at + 4 * length ws ≤ length p
-    → r ≡ painted p at (at + 4 * length ws) (from at (words_ink quads ws 1))
-    → r ≡ painted p at (at + length ws * (32 / 8)) (from at (words_ink table ws (8 / 8)))
-unfolding from words_ink
-quads_shown table quads p r ws at q room e =
-    let k : at + 4 * length ws ≡ at + length ws * (32 / 8) = omega arith in
-    rw k at
-    (paints_painted {d = 0} {f = from at (words_ink table ws 1)} room
-    (paint_as (from at (words_ink table ws 1)) (λ k a b. same (k - at)) (paints_of {d = 0} {f = from at (words_ink quads ws 1)} room e)))
-  where
-    same : (i : ℕ) → get_or quads (byte_of ws (i / 1) * 1 + i % 1) 0 ≡ get_or table (byte_of ws (i / 1) * 1 + i % 1) 0
-    same i = rw (mod-one i, mul-one (byte_of ws (i / 1)), add-zero (byte_of ws (i / 1))) (q.same (byte_of ws (i / 1)) (mod-lt _ (omega arith)))
+pub quads_shown : (table quads ws : List ℕ) (i : ℕ) → Quads table quads → words_ink quads ws 1 i ≡ words_ink table ws 1 i
+unfolding words_ink
+quads_shown table quads ws i q =
+    rw (mod-one i, mul-one (byte_of ws (i / 1)), add-zero (byte_of ws (i / 1))) (q.same (byte_of ws (i / 1)) (mod-lt _ (omega arith)))

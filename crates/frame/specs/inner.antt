@@ -3,3 +3,4 @@ pub mod Lent
 pub mod Lines
 pub mod Bytes
 pub mod Quads
+pub mod Depths

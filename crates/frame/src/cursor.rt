@@ -1,13 +1,10 @@
 // The cursor over one raster: its up to 32 positions, cut to the border.
-ghost use Rattle.std.specs.Prelude.{◌&&◌, ◌≡◌, ◌+◌, ◌/◌, ◌*◌, ◌≤◌, ◌<◌, length};
+ghost use Rattle.std.specs.Prelude.{◌&&◌, ◌≡◌, ◌+◌, ◌/◌, ◌<◌, length};
 ghost use Rattle.buffers.specs.Painted.{painted};
-ghost use Rattle.registers.specs.Setting.{cursor_words};
 ghost use Rattle.cells.specs.Cell.{within};
-ghost use Rattle.frame.specs.inner.Lent.{RasterLent};
-ghost use Rattle.frame.specs.inner.Ink.{pair_in, pair_ink, cover_ink};
+ghost use Rattle.frame.specs.inner.Ink.{pair_in, cover_ink};
 
-use crate::units::wide;
-use buffers::least;
+use crate::painter::Painter;
 use registers::setting::Setting;
 use registers::units::Rasters;
 
@@ -18,57 +15,32 @@ fn pair(cursor: &[u32], first: usize, i: usize) -> usize
     ((cursor[first + i / 16] >> (2 * (i % 16))) % 4) as usize
 }
 
-// Pairs `low` up to `high` of a cursor raster whose pair 0 would stand at place `start`.
-fn pairs(
-    out: &mut [u16],
-    start: usize,
-    low: usize,
-    high: usize,
-    pens: &[u16; 4],
-    cursor: &[u32],
-    first: usize,
-)
-    requires { (low ≤ high) × (high ≤ 32) × (start + high ≤ length out.old) × (first + 2 ≤ length cursor.now) }
-    ensures { out.new ≡ painted out.old (start + low) (start + high)
-        (pair_ink pens.now cursor.now first start out.old) }
-{
-    let mut i = low;
-    while i < high {
-        let p = pair(cursor, first, i);
-        if p != 0 {
-            out[start + i] = pens[p];
-        }
-        i += 1;
-    }
-}
-
 // The cursor is on in raster y, where the border is.
 fn pointed(s: Setting, y: Rasters) -> bool
     ensures { result ≡ s.cursor && within s.vcs.0 s.vce.0 y.0 && within s.vbs.0 s.vbe.0 y.0 }
 {
-    s.cursor & ((s.vcs.0 <= y.0) & (y.0 < s.vce.0)) & ((s.vbs.0 <= y.0) & (y.0 < s.vbe.0))
+    s.cursor & (s.vcs.0..s.vce.0).contains(&y.0) & (s.vbs.0..s.vbe.0).contains(&y.0)
 }
 
-pub fn cover(out: &mut [u16], at: usize, s: Setting, y: Rasters, pens: &[u16; 4], cursor: &[u32])
-    requires { RasterLent s at (cursor_words s) cursor.now out.old }
-    ensures { out.new ≡ painted out.old at (at + s.n.0)
-        (cover_ink s pens.now cursor.now y.0 at out.old) }
-{
-    if !pointed(s, y) {
-        return;
+impl Painter<'_> {
+    pub fn cover(&self, out: &mut [u16], y: Rasters)
+        requires { length out.old ≡ self.now.s.n.0 }
+        ensures { out.new ≡ painted out.old 0 self.now.s.n.0
+            (cover_ink self.now.s self.now.pens.now self.now.cursor.now y.0 out.old) }
+    {
+        let s = self.s;
+        if !pointed(s, y) {
+            return;
+        }
+        let start = usize::from(s.cx.0);
+        let low = usize::from(s.bs.width_from(s.cx).0);
+        let high = usize::from(s.be.width_from(s.cx).0).min(32);
+        let first = 2 * usize::from(y.0 - s.vcs.0);
+        for i in low..high {
+            let p = pair(self.cursor, first, i);
+            if p != 0 {
+                out[start + i] = self.pens[p];
+            }
+        }
     }
-    let low = wide(s.bs.width_from(s.cx));
-    let high = least(wide(s.be.width_from(s.cx)), 32);
-    if high <= low {
-        return;
-    }
-    pairs(
-        out,
-        at + wide(s.cx),
-        low,
-        high,
-        pens,
-        cursor,
-        2 * ((y.0 - s.vcs.0) as usize),
-    );
 }

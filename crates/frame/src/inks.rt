@@ -16,17 +16,14 @@ fn shades(list: &mut [u16], g: Registers, depth: u8)
     ensures { list.new ≡ painted list.old 0 (2 ^ depth) (shade g depth) }
 {
     let palette = entries(g);
-    let count = 1usize << depth;
-    let mut p = 0;
-    while p < count {
+    for p in 0..1usize << depth {
         list[p] = shown(palette[p % 16], depth, p as u8).cell(5);
-        p += 1;
     }
 }
 
 // The cells of all pixels of each byte: at depth 8 a byte is a pixel.
-pub fn ready(table: &mut [u16], g: Registers, depth: u8)
-    requires { (2048 ≤ length table.old) × Depth depth }
+pub fn ready(table: &mut [u16; 2048], g: Registers, depth: u8)
+    requires { Depth depth }
     ensures { Bytes g depth table.new }
 {
     if depth == 8 {

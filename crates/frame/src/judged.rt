@@ -7,7 +7,6 @@ ghost use Rattle.cells.specs.Picture.{picture_told};
 ghost use Rattle.frame.specs.Frame.{cells, frame_told, frame_leaves, raster_told, raster_leaves};
 
 use crate::paint::paint;
-use crate::units::wide;
 use refusals::{Answer, Refusal};
 use registers::record::Registers;
 use registers::setting::Setting;
@@ -18,7 +17,7 @@ fn frame_cells(s: Setting) -> usize
     requires { Accepted s }
     ensures { result ≡ cells s }
 {
-    wide(s.n) * (s.v.0 as usize)
+    usize::from(s.n.0) * usize::from(s.v.0)
 }
 
 pub fn judged_frame(
@@ -54,7 +53,7 @@ pub fn judged_raster(
     if y.0 >= s.v.0 {
         return Answer::Refused(Refusal::Raster);
     }
-    if out.len() < wide(s.n) {
+    if out.len() < usize::from(s.n.0) {
         return Answer::Refused(Refusal::Short);
     }
     paint(out, g, s, y, Rasters(y.0 + 1), video, cursor);

@@ -16,16 +16,14 @@ mod bytes;
 mod cursor;
 mod decode;
 mod display;
-mod fill;
 mod inks;
 mod judged;
 mod lines;
 mod paint;
+mod painter;
 mod plain;
-mod put;
 mod quads;
 mod rows;
-mod units;
 
 // All N·V cells of a frame, raster after raster; the lent cells beyond are untouched. Refusals: the setting's, 11, 13.
 pub fn frame(g: Registers, video: &[u32], cursor: &[u32], out: &mut [u16]) -> Answer

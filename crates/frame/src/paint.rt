@@ -5,8 +5,8 @@ ghost use Rattle.frame.specs.inner.Lent.{Lent};
 ghost use Rattle.frame.specs.inner.Ink.{rows_cell};
 
 use crate::inks::{pens, ready};
+use crate::painter::Painter;
 use crate::quads::quads;
-use crate::rows::rows;
 use registers::record::Registers;
 use registers::setting::Setting;
 use registers::units::Rasters;
@@ -25,10 +25,17 @@ pub fn paint(
     ensures { out.new ≡ painted out.old 0 (s.n.0 * (end.0 - first.0))
         (rows_cell g s video.now cursor.now first.0) }
 {
-    let mut table = [0u16; 2048];
+    let mut table = [0; 2048];
     ready(&mut table, g, s.depth);
-    let mut four = [0u64; 1024];
+    let mut four = [0; 1024];
     quads(&mut four, &table, s.depth);
-    let inks = pens(g);
-    rows(out, s, first, end, &inks, &table, &four, video, cursor);
+    let painter = Painter {
+        s,
+        video,
+        cursor,
+        pens: &pens(g),
+        table: &table,
+        quads: &four,
+    };
+    painter.rows(out, first, end);
 }

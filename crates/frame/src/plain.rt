@@ -1,48 +1,27 @@
 // One raster with no cursor: its line, and the display's stretch in it.
-ghost use Rattle.std.specs.Prelude.{◌≡◌, ◌+◌, ◌≤◌, length};
+ghost use Rattle.std.specs.Prelude.{◌≡◌, length};
 ghost use Rattle.buffers.specs.Painted.{painted};
-ghost use Rattle.registers.specs.Setting.{video_words};
-ghost use Rattle.frame.specs.inner.Lent.{RasterLent};
-ghost use Rattle.frame.specs.inner.Quads.{Tables};
-ghost use Rattle.frame.specs.inner.Ink.{from, cell_in, lined_ink};
+ghost use Rattle.frame.specs.inner.Ink.{lined_ink};
 
-use crate::display::display;
-use crate::units::{displayed, wide};
-use registers::setting::Setting;
-use registers::units::{Pixels, Rasters};
+use crate::painter::Painter;
+use registers::units::Rasters;
 
-// Positions from the start up to the end of a line, into the raster at place `at`.
-fn copy(out: &mut [u16], at: usize, line: &[u16; 2048], start: Pixels, end: Pixels)
-    requires { (start.0 ≤ end.0) × (end.0 ≤ 2048) × (at + end.0 ≤ length out.old) }
-    ensures { out.new ≡ painted out.old (at + start.0) (at + end.0) (from at (cell_in line.now)) }
-{
-    let last = wide(end);
-    let mut k = wide(start);
-    while k < last {
-        out[at + k] = line[k];
-        k += 1;
+impl Painter<'_> {
+    pub fn plain(&self, out: &mut [u16], y: Rasters, line: &[u16; 2048])
+        requires { length out.old ≡ self.now.s.n.0 }
+        ensures { out.new ≡ painted out.old 0 self.now.s.n.0
+            (lined_ink self.now.s line.now self.now.table.now self.now.video.now y.0) }
+    {
+        let s = self.s;
+        let n = usize::from(s.n.0);
+        if !(s.vds.0..s.vde.0).contains(&y.0) {
+            out.copy_from_slice(&line[..n]);
+            return;
+        }
+        let ds = usize::from(s.ds.0);
+        let de = usize::from(s.de.0);
+        out[..ds].copy_from_slice(&line[..ds]);
+        self.display(&mut out[ds..de], y);
+        out[de..n].copy_from_slice(&line[de..n]);
     }
-}
-
-pub fn plain(
-    out: &mut [u16],
-    at: usize,
-    s: Setting,
-    y: Rasters,
-    line: &[u16; 2048],
-    table: &[u16; 2048],
-    quads: &[u64; 1024],
-    video: &[u32],
-)
-    requires { RasterLent s at (video_words s) video.now out.old × Tables s.depth table.now quads.now }
-    ensures { out.new ≡ painted out.old at (at + s.n.0)
-        (from at (lined_ink s line.now table.now video.now y.0)) }
-{
-    if displayed(s, y) {
-        copy(out, at, line, Pixels(0), s.ds);
-        display(out, at, s, y, table, quads, video);
-        copy(out, at, line, s.de, s.n);
-        return;
-    }
-    copy(out, at, line, Pixels(0), s.n);
 }

@@ -2,37 +2,28 @@
 ghost use Rattle.std.specs.Prelude.{◌≡◌, ◌+◌, ◌*◌, ◌≤◌, ◌<◌, length};
 ghost use Rattle.buffers.specs.Painted.{painted};
 ghost use Rattle.frame.specs.inner.Quads.{Cells, Quads, Tables, Joined, Four};
-ghost use Rattle.frame.specs.inner.Ink.{from, moved_ink, quad_cell, words_ink};
+ghost use Rattle.frame.specs.inner.Ink.{quad_cell, words_ink};
 
-// The cell of each byte moved up by so many bits, from place `at` of the table on.
-fn place(quads: &mut [u64], at: usize, table: &[u16; 2048], bits: u32)
-    requires { Cells table.now × (at + 256 ≤ length quads.old) × (bits ≤ 48) }
-    ensures { quads.new ≡ painted quads.old at (at + 256) (from at (moved_ink table.now bits)) }
+// Each byte's cell at its four places.
+fn join(quads: &mut [u64; 1024], table: &[u16; 2048])
+    requires { Cells table.now }
+    ensures { Quads table.now quads.new }
 {
-    let mut b = 0;
-    while b < 256 {
-        quads[at + b] = (table[b] as u64) << bits;
-        b += 1;
+    for b in 0..256 {
+        let cell = u64::from(table[b]);
+        quads[b] = cell;
+        quads[256 + b] = cell << 16;
+        quads[512 + b] = cell << 32;
+        quads[768 + b] = cell << 48;
     }
 }
 
-// Each byte's cell at its four places.
-fn join(quads: &mut [u64], table: &[u16; 2048])
-    requires { Cells table.now × (1024 ≤ length quads.old) }
-    ensures { Quads table.now quads.new }
-{
-    place(quads, 0, table, 0);
-    place(quads, 256, table, 16);
-    place(quads, 512, table, 32);
-    place(quads, 768, table, 48);
-}
-
 // The table that depth 8 is painted by.
-pub fn quads(quads: &mut [u64; 1024], table: &[u16; 2048], d: u8)
-    requires { d ≡ 8 → Cells table.now }
-    ensures { Tables d table.now quads.new }
+pub fn quads(quads: &mut [u64; 1024], table: &[u16; 2048], depth: u8)
+    requires { depth ≡ 8 → Cells table.now }
+    ensures { Tables depth table.now quads.new }
 {
-    if d == 8 {
+    if depth == 8 {
         join(quads, table);
     }
 }
@@ -50,52 +41,38 @@ fn quad(quads: &[u64; 1024], w: u32) -> u64
 }
 
 // They are stored one after another: the machine stores all 64 bits at once.
-fn put_quad(out: &mut [u16], at: usize, x: u64)
-    requires { at + 4 ≤ length out.old }
-    ensures { out.new ≡ painted out.old at (at + 4) (from at (quad_cell x)) }
+fn put_quad(out: &mut [u16], x: u64)
+    requires { length out.old ≡ 4 }
+    ensures { out.new ≡ painted out.old 0 4 (quad_cell x) }
 {
-    out[at] = (x % 0x1_0000) as u16;
-    out[at + 1] = ((x >> 16) % 0x1_0000) as u16;
-    out[at + 2] = ((x >> 32) % 0x1_0000) as u16;
-    out[at + 3] = ((x >> 48) % 0x1_0000) as u16;
+    out[0] = (x % 0x1_0000) as u16;
+    out[1] = ((x >> 16) % 0x1_0000) as u16;
+    out[2] = ((x >> 32) % 0x1_0000) as u16;
+    out[3] = ((x >> 48) % 0x1_0000) as u16;
 }
 
-// Word q of a list that is painted from place `at` on.
-fn quad_word(out: &mut [u16], at: usize, video: &[u32], q: usize, quads: &[u64; 1024])
-    requires { (at + 4 * q + 4 ≤ length out.old) × (q < length video.now) × Joined quads.now }
-    ensures { out.new ≡ painted out.old (at + 4 * q) (at + 4 * q + 4)
-        (from at (words_ink quads.now video.now 1)) }
+// All words of a list, one a turn.
+fn each(out: &mut [u16], quads: &[u64; 1024], video: &[u32])
+    requires { (length out.old ≡ 4 * length video.now) × Joined quads.now }
+    ensures { out.new ≡ painted out.old 0 (length out.old) (words_ink quads.now video.now 1) }
 {
-    put_quad(out, at + 4 * q, quad(quads, video[q]));
-}
-
-// Its words from the first given on.
-fn quad_rest(out: &mut [u16], at: usize, video: &[u32], first: usize, quads: &[u64; 1024])
-    requires { (at + 4 * length video.now ≤ length out.old) × (first ≤ length video.now) × Joined quads.now }
-    ensures { out.new ≡ painted out.old (at + 4 * first) (at + 4 * length video.now)
-        (from at (words_ink quads.now video.now 1)) }
-{
-    let mut q = first;
-    while q < video.len() {
-        quad_word(out, at, video, q, quads);
-        q += 1;
+    for (q, w) in video.iter().enumerate() {
+        put_quad(&mut out[4 * q..4 * q + 4], quad(quads, *w));
     }
 }
 
-// All its words, four a turn; one counter serves both lists, so that the machine keeps all in registers.
-pub fn quad_words(out: &mut [u16], at: usize, video: &[u32], quads: &[u64; 1024])
-    requires { (at + 4 * length video.now ≤ length out.old) × Joined quads.now }
-    ensures { out.new ≡ painted out.old at (at + 4 * length video.now)
-        (from at (words_ink quads.now video.now 1)) }
+// The same four a turn, which the machine does with no test between them, and then those that are left.
+pub fn quad_words(out: &mut [u16], quads: &[u64; 1024], video: &[u32])
+    requires { (length out.old ≡ 4 * length video.now) × Joined quads.now }
+    ensures { out.new ≡ painted out.old 0 (length out.old) (words_ink quads.now video.now 1) }
 {
-    let fours = video.len() - video.len() % 4;
-    let mut q = 0;
-    while q < fours {
-        quad_word(out, at, video, q, quads);
-        quad_word(out, at, video, q + 1, quads);
-        quad_word(out, at, video, q + 2, quads);
-        quad_word(out, at, video, q + 3, quads);
-        q += 4;
+    let turns = video.len() / 4;
+    for k in 0..turns {
+        each(
+            &mut out[16 * k..16 * k + 16],
+            quads,
+            &video[4 * k..4 * k + 4],
+        );
     }
-    quad_rest(out, at, video, q, quads);
+    each(&mut out[16 * turns..], quads, &video[4 * turns..]);
 }

@@ -11,14 +11,6 @@ use Rattle.colours.specs.Colour.{shown_of, colour_of}
 use Rattle.cells.specs.Pixel.{position, cursor_pair}
 use Rattle.cells.specs.Cell.{in_display, in_border, plain_code, covered, cell}
 
--- A rule over the places of a stretch, moved to where that stretch starts.
-unfoldable pub from : ℕ → (ℕ → ℕ) → ℕ → ℕ
-from at rule k = rule (k - at)
-
--- Cell j of a list.
-unfoldable pub cell_in : List ℕ → ℕ → ℕ
-cell_in cells j = get_or cells j 0
-
 -- The cell of pixel j of a byte, and place k of the table: pixel k mod per of byte k div per.
 unfoldable pub byte_ink : List ℕ → ℕ → ℕ → ℕ → ℕ
 byte_ink shades b d j = get_or shades (b / 2 ^ (j * d) % 2 ^ d) 0
@@ -33,10 +25,7 @@ word_ink table w per i = get_or table (w / 2 ^ (8 * (i / per)) % 256 * per + i %
 unfoldable pub words_ink : List ℕ → List ℕ → ℕ → ℕ → ℕ
 words_ink table ws per i = get_or table (byte_of ws (i / per) * per + i % per) 0
 
--- The cell of byte b, moved up by so many bits; and cell j of four.
-unfoldable pub moved_ink : List ℕ → ℕ → ℕ → ℕ
-moved_ink table bits b = get_or table b 0 * 2 ^ bits
-
+-- Cell j of four.
 unfoldable pub quad_cell : ℕ → ℕ → ℕ
 quad_cell x j = x / 2 ^ (16 * j) % 65536
 
@@ -74,10 +63,10 @@ rows_ink s pens table video cursor first k = ink s pens table video cursor (firs
 unfoldable pub rows_cell : Registers → Setting → List ℕ → List ℕ → ℕ → ℕ → ℕ
 rows_cell g s video cursor first k = cell g s video cursor (k % s.n.0) (first + k / s.n.0)
 
--- The cursor over cells that stand in a raster at place `at`.
-unfoldable pub cover_ink : Setting → List ℕ → List ℕ → ℕ → ℕ → List ℕ → ℕ → ℕ
-cover_ink s pens cursor y at old k =
-    pick (covered s cursor (k - at) y) (get_or pens (cursor_pair s cursor y (k - at - s.cx.0)) 0) (get_or old k 0)
+-- The cursor over the cells that a raster holds.
+unfoldable pub cover_ink : Setting → List ℕ → List ℕ → ℕ → List ℕ → ℕ → ℕ
+cover_ink s pens cursor y old x =
+    pick (covered s cursor x y) (get_or pens (cursor_pair s cursor y (x - s.cx.0)) 0) (get_or old x 0)
 
 -- Bit pair i of the words from the given one on.
 unfoldable pub pair_in : List ℕ → ℕ → ℕ → ℕ

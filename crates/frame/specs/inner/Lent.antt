@@ -1,6 +1,5 @@
--- What the painters ask of what they are lent, among themselves: a judged picture, room, whole parts of a word. No public promise reaches this.
-use Rattle.std.specs.Prelude.{ℕ, ◌+◌, ◌*◌, ◌≤◌, ◌<◌, List, ◌≡◌, length}
-use Rattle.registers.specs.inner.Accepted.{Accepted}
+-- What the painters ask of what they are lent, among themselves: a judged picture and room. No public promise reaches this.
+use Rattle.std.specs.Prelude.{ℕ, ◌*◌, ◌/◌, ◌≤◌, ◌<◌, List, ◌≡◌, length}
 use Rattle.registers.specs.declared.setting.Setting.{Setting}
 use Rattle.cells.specs.inner.Known.{Picture}
 
@@ -9,15 +8,8 @@ pub record Lent (s : Setting) (end : ℕ) (video cursor out : List ℕ) : Type 0
   pub picture : Picture s video cursor
   pub room : end ≤ length out
 
--- A raster from place `at` on, with one of the picture's lists, which has as many words as are needed.
-pub record RasterLent (s : Setting) (at needed : ℕ) (words out : List ℕ) : Type 0 where
-  pub accepted : Accepted s
-  pub room : at + s.n.0 ≤ length out
-  pub enough : length words ≡ needed
-
--- A word in parts of so many bytes, `per` pixels to a byte and no more than 8 to a part.
-pub record Parts (per bytes parts : ℕ) : Type 0 where
-  pub pixels : 0 < per
-  pub some : 0 < bytes
-  pub eight : bytes * per ≤ 8
-  pub four : parts * bytes ≡ 4
+-- So many pixels to a byte that a word's are whole eights.
+pub record Per (per : ℕ) : Type 0 where
+  pub some : 0 < per
+  pub few : per ≤ 8
+  pub even : per / 2 * 8 ≡ 4 * per

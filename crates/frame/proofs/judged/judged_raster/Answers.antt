@@ -9,19 +9,19 @@ pub returns-then-y-s : goal.returns-then-y-s
 returns-then-y-s c =
     raster_past c.args.g _ _ _ _ c.args.s c.requires c.if-y-s.true
 
-pub returns-then-out-wide : goal.returns-then-out-wide
-returns-then-out-wide c =
-    raster_short c.args.g _ _ _ _ c.args.s c.requires c.if-y-s.false (rw c.wide.ensures at c.if-out-wide.true)
+pub returns-then-out-from : goal.returns-then-out-from
+returns-then-out-from c =
+    raster_short c.args.g _ _ _ _ c.args.s c.requires c.if-y-s.false (rw c.from.ensures at c.if-out-from.true)
 
 pub paint-requires : goal.paint-requires
 paint-requires c =
     let picture = given_picture c.args.g _ _ c.args.s c.requires in (
-      record { picture = picture; room = rw (one_raster c.args.s.n.0 c.args.y.0, ← c.wide.ensures) c.if-out-wide.false },
+      record { picture = picture; room = rw (one_raster c.args.s.n.0 c.args.y.0, ← c.from.ensures) c.if-out-from.false },
       omega arith,
     )
 
 pub returns : goal.returns
 returns c =
-    let room = rw c.wide.ensures at c.if-out-wide.false in
+    let room = rw c.from.ensures at c.if-out-from.false in
     raster_painted c.args.g _ _ _ _ c.args.s c.requires c.if-y-s.false _ room
     (raster_law _ _ _ _ _ _ _ room c.paint.ensures)

@@ -3,13 +3,9 @@ use Rattle.frame.proofs.Ready.{cells_right, rows_law}
 use Rattle.frame.proofs.paint.paint.Goals as goal
 
 pub quads-requires : goal.quads-requires
-quads-requires c =
-    let ready = c.ready in
-    cells_right c.args.g c.args.s.depth _ ready.ensures
+quads-requires c = cells_right c.args.g c.args.s.depth _ c.ready.ensures
 
 pub returns : goal.returns
 returns c =
-    let pens = c.pens-inks in
-    let ready = c.ready in
-    rows_law c.args.g c.args.s _ _ _ _ _ _ c.requires.0.picture.accepted.depth pens.ensures ready.ensures _ _ c.requires.0.room
+    rows_law c.args.g c.args.s _ _ _ _ _ _ c.requires.0.picture.accepted.depth c.pens.ensures c.ready.ensures _ _ c.requires.0.room
     c.rows.ensures

@@ -1,10 +1,8 @@
--- Four places for each byte's cell, one stretch of the table after another.
+-- Byte after byte: after the last the table is that of quads.
+use Rattle.std.proofs.Common.{◌≡◌, arith}
 use Rattle.frame.proofs.QuadCells.{quads_right}
 use Rattle.frame.proofs.quads.join.Goals as goal
 
 pub returns : goal.returns
-returns c =
-    let place = c.place in
-    let place2 = c.place-2 in
-    let place3 = c.place-3 in
-    quads_right _ c.requires.0 _ _ _ _ _ c.requires.1 place.ensures place2.ensures place3.ensures c.place-4.ensures
+returns c = let e : c.loop-b.b ≡ 256 = omega arith in
+    quads_right c.args.table.now c.loop-b.quads c.requires (rw e at c.loop-b.invariant.1)
