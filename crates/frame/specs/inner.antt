@@ -1,5 +1,5 @@
 pub mod Ink
-pub mod Lent
+pub mod Per
 pub mod Lines
 pub mod Bytes
 pub mod Quads

@@ -8,6 +8,8 @@ use crate::painter::Painter;
 use registers::setting::Setting;
 use registers::units::Rasters;
 
+// Pair i of the words from the first given on.
+#[tactic(auto, unfolding(crate::specs::inner::Ink::pair_in))]
 fn pair(cursor: &[u32], first: usize, i: usize) -> usize
     requires { first + i / 16 < length cursor.now }
     ensures { result ≡ pair_in cursor.now first i }

@@ -1,13 +1,14 @@
 // Display words into cells, through a table that has the cells of all pixels of each byte.
 ghost use Rattle.std.specs.Prelude.{◌≡◌, ◌+◌, ◌*◌, ◌/◌, ◌≤◌, ◌<◌, length, slice_index, EachIndex};
 ghost use Rattle.buffers.specs.Painted.{painted};
-ghost use Rattle.frame.specs.inner.Lent.{Per};
+ghost use Rattle.frame.specs.inner.Per.{Per};
 ghost use Rattle.frame.specs.inner.Ink.{word_ink, words_ink};
 
 use crate::painter::Painter;
 use crate::quads::quad_words;
 
 // Pixel i of a word, PER pixels to a byte.
+#[tactic(auto, unfolding(crate::specs::inner::Ink::word_ink))]
 fn cell<const PER: usize>(table: &[u16; 2048], w: u32, i: usize) -> u16
     requires { Per PER × (i < 4 * PER) }
     ensures { result ≡ word_ink table.now w PER i }

@@ -1,7 +1,7 @@
 // Rasters painted by the cell rule: what serves all of them is made ready once, then they are painted one after another.
-ghost use Rattle.std.specs.Prelude.{◌≡◌, ◌*◌, ◌-◌, ◌≤◌};
+ghost use Rattle.std.specs.Prelude.{◌≡◌, ◌*◌, ◌-◌, ◌≤◌, length};
 ghost use Rattle.buffers.specs.Painted.{painted};
-ghost use Rattle.frame.specs.inner.Lent.{Lent};
+ghost use Rattle.cells.specs.inner.Known.{Picture};
 ghost use Rattle.frame.specs.inner.Ink.{rows_cell};
 
 use crate::inks::{pens, ready};
@@ -21,7 +21,7 @@ pub fn paint(
     video: &[u32],
     cursor: &[u32],
 )
-    requires { Lent s (s.n.0 * (end.0 - first.0)) video.now cursor.now out.old × (first.0 ≤ end.0) }
+    requires { Picture s video.now cursor.now × (s.n.0 * (end.0 - first.0) ≤ length out.old) × (first.0 ≤ end.0) }
     ensures { out.new ≡ painted out.old 0 (s.n.0 * (end.0 - first.0))
         (rows_cell g s video.now cursor.now first.0) }
 {

@@ -7,5 +7,5 @@ quads-requires c = cells_right c.args.g c.args.s.depth _ c.ready.ensures
 
 pub returns : goal.returns
 returns c =
-    rows_law c.args.g c.args.s _ _ _ _ _ _ c.requires.0.picture.accepted.depth c.pens.ensures c.ready.ensures _ _ c.requires.0.room
+    rows_law c.args.g c.args.s _ _ _ _ _ _ c.requires.0.accepted.depth c.pens.ensures c.ready.ensures _ _ c.requires.1
     c.rows.ensures
