@@ -5,7 +5,7 @@ use mathlib.Core.Logic.{◌↔◌, inl, inr}
 use mathlib.Core.Path.{◌≡◌, refl}
 use native.Mathlib.Omega.{arith}
 use borrow.Author.Tests.{lt-ltb, le-ltb}
-use Rattle.buffers.proofs.Split.{lt_or_le}
+use Rattle.std.proofs.lemmas.Bool.{cases_lt}
 use Rattle.pictures.specs.Head.{said_behind}
 use Rattle.pictures.specs.HeadNext.{with_digit}
 
@@ -34,7 +34,7 @@ pub capped_says : (number m : ℕ) (ds : List ℕ) → number ≤ 65535 → (cap
 unfolding capped_behind said_behind
 capped_says number m [] few = (λ e. e, λ e. e)
 capped_says number m (d ∷ ds) few =
-    elim (lt_or_le 65535 m) [
+    elim (cases_lt 65535 m) [
       | inl h ↦ (
         λ e. absurd (omega (arith, capped_stays m (d ∷ ds) h)),
         λ e. absurd (omega (arith, said_grows m (d ∷ ds))),

@@ -9,8 +9,7 @@ use borrow.Author.Tests.{eqb-true, ltb-true, ltb-false}
 use lib.Dec.{eqb, ltb}
 use lib.ListN.{length, length-append}
 use Rattle.buffers.specs.Pick.{pick}
-use Rattle.buffers.proofs.Split.{true_or_false}
-use Rattle.buffers.proofs.Tests.{and_split, and_join}
+use Rattle.std.proofs.lemmas.Bool.{and_from, and_parts, cases_Bool}
 use Rattle.pictures.specs.Each.{each}
 use Rattle.pictures.specs.Head.{is_white, is_digit, in_line, Piece, blank, comment, right_piece, spelled_piece, spelled}
 use Rattle.pictures.specs.Head.{Numbered, RightHead}
@@ -22,10 +21,10 @@ use Rattle.pictures.proofs.Digits.{capped_behind, capped_more, capped_says}
 -- One more at the end.
 pub each_more : {A : Type 0} (test : A → Bool) (xs : List A) (x : A) → each test xs ≡ true → test x ≡ true → each test (xs ++ (x ∷ [])) ≡ true
 unfolding each
-each_more test [] x h e = and_join e refl
+each_more test [] x h e = and_from _ _ e refl
 each_more test (y ∷ ys) x h e =
-    let both = and_split (test y) (each test ys) h in
-    and_join both.0 (each_more test ys x both.1 e)
+    let both = and_parts (test y) (each test ys) h in
+    and_from _ _ both.0 (each_more test ys x both.1 e)
 
 pub spelled_more : (ps : List Piece) (p : Piece) → spelled (ps ++ (p ∷ [])) ≡ spelled ps ++ spelled_piece p
 unfolding spelled
@@ -107,7 +106,7 @@ module _ (n v : ℕ) where
   unfolding each
   white_next_holds k b start white led =
       let joined = append_assoc start (spelled white) (b ∷ []) in
-      elim (true_or_false (eqb b 35)) [
+      elim (cases_Bool (eqb b 35)) [
         | inl e ↦
             rw e (record {
               start = start;
@@ -118,7 +117,7 @@ module _ (n v : ℕ) where
               is = joined ∙ ap (λ (c : ℕ). start ++ (spelled white ++ (c ∷ []))) (eqb-true b 35 e);
             })
         | inr e ↦
-            elim (true_or_false (is_white b)) [
+            elim (cases_Bool (is_white b)) [
               | inl f ↦
                   rw (e, f) (record {
                     start = start;
@@ -177,7 +176,7 @@ module _ (n v : ℕ) where
   behind_next_holds : (k b : ℕ) (read : List ℕ) → Before (suc k) read → k ≤ 2 → Read (behind_next k b) (read ++ (b ∷ []))
   unfolding each spelled
   behind_next_holds k b read before few =
-      elim (true_or_false (ltb k 2)) [
+      elim (cases_Bool (ltb k 2)) [
         | inl e ↦
             let more : k < 2 = ltb-true k 2 e in
             let next : k + 1 ≡ suc k = omega arith in
@@ -185,7 +184,7 @@ module _ (n v : ℕ) where
             rw (e, next) (rw (append-nil read) at (white_next_holds (suc k) b read [] led))
         | inr e ↦
             let last : k ≡ 2 = omega (arith, ltb-false k 2 e) in
-            elim (true_or_false (is_white b)) [
+            elim (cases_Bool (is_white b)) [
               | inl f ↦ rw (e, f) (whole_behind read b (rw last at before) f)
               | inr f ↦ rw (e, f) tt
             ]
@@ -201,7 +200,7 @@ module _ (n v : ℕ) where
     some_white = i.some_white;
     digits = b ∷ [];
     some_digits = omega arith;
-    are_digits = and_join e refl;
+    are_digits = and_from _ _ e refl;
     capped = refl;
     is = ap (λ (l : List ℕ). l ++ (b ∷ [])) i.is ∙ append_assoc i.start (spelled i.white) (b ∷ []);
   }
@@ -255,7 +254,7 @@ module _ (n v : ℕ) where
     -- with the byte behind a number, which is the one asked for,
     number_next : (k m b : ℕ) (read : List ℕ) → InNumber k m read → Read (pick (eqb m (number_asked n v k)) (behind_next k b) Wrong) (read ++ (b ∷ []))
     number_next k m b read i =
-        elim (true_or_false (eqb m (number_asked n v k))) [
+        elim (cases_Bool (eqb m (number_asked n v k))) [
           | inl e ↦ rw e (behind_next_holds k b read (number_behind k read (rw (eqb-true m (number_asked n v k) e) at i) (asked_most k)) i.led.few)
           | inr e ↦ rw e tt
         ]
@@ -264,23 +263,23 @@ module _ (n v : ℕ) where
     pub read_next : (h : Head) (b : ℕ) (read : List ℕ) → Read h read → Read (head_next n v h b) (read ++ (b ∷ []))
     unfolding each spelled
     read_next Empty b read i =
-        elim (true_or_false (eqb b 80)) [ inl e ↦ rw e (rw (i, eqb-true b 80 e)) | inr e ↦ rw e tt ]
+        elim (cases_Bool (eqb b 80)) [ inl e ↦ rw e (rw (i, eqb-true b 80 e)) | inr e ↦ rw e tt ]
     read_next Letter b read i =
-        elim (true_or_false (eqb b 54)) [ inl e ↦ rw e (rw (i, eqb-true b 54 e)) | inr e ↦ rw e tt ]
+        elim (cases_Bool (eqb b 54)) [ inl e ↦ rw e (rw (i, eqb-true b 54 e)) | inr e ↦ rw e tt ]
     read_next Kind b read i =
         rw (append-nil read) at (white_next_holds 0 b read [] (record { before = i; few = omega arith; are_white = refl }))
     read_next (White k) b read i =
-        elim (true_or_false (is_digit b)) [
+        elim (cases_Bool (is_digit b)) [
           | inl e ↦ rw e (digit_first k b read i e)
           | inr e ↦ rw (e, i.is) (white_next_holds k b i.start i.white i.led)
         ]
     read_next (Comment k) b read i =
-        elim (true_or_false (eqb b 10)) [
+        elim (cases_Bool (eqb b 10)) [
           | inl e ↦ rw (e, eqb-true b 10 e) (comment_end k read i)
           | inr e ↦ rw e (comment_more k b read i e)
         ]
     read_next (Number k m) b read i =
-        elim (true_or_false (is_digit b)) [ inl e ↦ rw e (digit_more k m b read i e) | inr e ↦ rw e (number_next k m b read i) ]
+        elim (cases_Bool (is_digit b)) [ inl e ↦ rw e (digit_more k m b read i e) | inr e ↦ rw e (number_next k m b read i) ]
     read_next Whole b read i = tt
     read_next Wrong b read i = tt
 

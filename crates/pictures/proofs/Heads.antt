@@ -8,7 +8,7 @@ use native.Mathlib.Omega.{arith}
 use borrow.Author.Tests.{eqb-true, eq-eqb, ne_eqb, leb-true, lt-leb, lt-ltb, not-true}
 use lib.Dec.{eqb, leb}
 use lib.ListN.{length}
-use Rattle.buffers.proofs.Tests.{and_split, or_split}
+use Rattle.std.proofs.lemmas.Bool.{and_parts, or_cases}
 use Rattle.pictures.specs.Each.{each}
 use Rattle.pictures.specs.Head.{is_white, is_digit, in_line, Piece, blank, comment, right_piece, spelled_piece, spelled}
 use Rattle.pictures.specs.Head.{Numbered, RightHead}
@@ -21,9 +21,9 @@ use Rattle.pictures.proofs.HeadRead.{asked_most, read_behind}
 -- A white byte is below every digit, and begins no comment.
 white_alone : (b : ℕ) → is_white b ≡ true → (is_digit b ≡ false) × (eqb b 35 ≡ false)
 white_alone b e =
-    let low : b < 33 = elim (or_split (eqb b 32) (leb 9 b && leb b 13) e) [
+    let low : b < 33 = elim (or_cases (eqb b 32) (leb 9 b && leb b 13) e) [
       | inl s ↦ omega (arith, eqb-true b 32 s)
-      | inr s ↦ omega (arith, leb-true b 13 (and_split (leb 9 b) (leb b 13) s).1)
+      | inr s ↦ omega (arith, leb-true b 13 (and_parts (leb 9 b) (leb b 13) s).1)
     ] in
     (rw (lt-leb 48 b (omega (arith, low))), ne_eqb b 35 (λ q. omega (arith, low, q)))
 
@@ -57,7 +57,7 @@ module _ (n v : ℕ) where
   unfolding each head_behind
   comment_run k [] rest h = refl
   comment_run k (t ∷ ts) rest h =
-      let both = and_split (in_line t) (each in_line ts) h in
+      let both = and_parts (in_line t) (each in_line ts) h in
       let goes_on : head_next n v (Comment k) t ≡ Comment k = rw (not-true (eqb t 10) both.0) in
       by_first (Comment k) (Comment k) t (ts ++ (10 ∷ rest)) goes_on ∙ comment_run k ts rest both.1
 
@@ -78,7 +78,7 @@ module _ (n v : ℕ) where
   unfolding each spelled
   white_run k [] rest e = refl
   white_run k (p ∷ ps) rest e =
-      let both = and_split (right_piece p) (each right_piece ps) e in
+      let both = and_parts (right_piece p) (each right_piece ps) e in
       first_run (White k) k p ps rest (white_opens k) both.0 ∙ white_run k ps rest both.1
 
   some_white_run : (h : Head) (k : ℕ) (ps : List Piece) (rest : List ℕ) → Opens h k → 1 ≤ length ps → each right_piece ps ≡ true
@@ -86,14 +86,14 @@ module _ (n v : ℕ) where
   unfolding each
   some_white_run h k [] rest o some e = absurd (omega (arith, some))
   some_white_run h k (p ∷ ps) rest o some e =
-      let both = and_split (right_piece p) (each right_piece ps) e in
+      let both = and_parts (right_piece p) (each right_piece ps) e in
       first_run h k p ps rest o both.0 ∙ white_run k ps rest both.1
 
   digits_run : (k m : ℕ) (ds rest : List ℕ) → each is_digit ds ≡ true → after (Number k m) (ds ++ rest) ≡ after (Number k (capped_behind m ds)) rest
   unfolding each head_behind capped_behind
   digits_run k m [] rest e = refl
   digits_run k m (d ∷ ds) rest e =
-      let both = and_split (is_digit d) (each is_digit ds) e in
+      let both = and_parts (is_digit d) (each is_digit ds) e in
       let next = Number k (with_digit m (d - 48)) in
       by_first (Number k m) next d (ds ++ rest) (rw both.0) ∙ digits_run k (with_digit m (d - 48)) ds rest both.1
 
@@ -102,7 +102,7 @@ module _ (n v : ℕ) where
   unfolding each head_behind capped_behind
   some_digits_run k [] rest some e = absurd (omega (arith, some))
   some_digits_run k (d ∷ ds) rest some e =
-      let both = and_split (is_digit d) (each is_digit ds) e in
+      let both = and_parts (is_digit d) (each is_digit ds) e in
       let next = Number k (with_digit 0 (d - 48)) in
       by_first (White k) next d (ds ++ rest) (rw both.0) ∙ digits_run k (with_digit 0 (d - 48)) ds rest both.1
 

@@ -2,33 +2,26 @@
 use Prim.Native.Nat.{ℕ, ◌/◌, ◌%◌, ◌≤◌}
 use mathlib.Core.Bool.{Bool, true, false, ◌&&◌}
 use mathlib.Core.List.{List, [], ◌∷◌}
-use mathlib.Core.Path.{◌≡◌, refl, sym, ◌∙◌}
+use mathlib.Core.Path.{◌≡◌, sym, ◌∙◌}
 use borrow.Author.Tests.{leb-true}
 use lib.Dec.{leb, eqb}
 use lib.ListN.{length}
 use Rattle.std.proofs.Common.{fold}
+use Rattle.std.proofs.Math.Bool.{and_assoc, and-true}
 use Rattle.buffers.specs.Painted.{painted}
-use Rattle.buffers.proofs.Tests.{and_split}
+use Rattle.std.proofs.lemmas.Bool.{and_parts}
 use Rattle.pictures.specs.Each.{each}
 use Rattle.pictures.specs.Read.{is_gun, colour_read_at, read_right, read_leaves}
-
-and_assoc : (a b c : Bool) → a && (b && c) ≡ a && b && c
-and_assoc true b c = refl
-and_assoc false b c = refl
-
-and_all : (a : Bool) → a && true ≡ a
-and_all true = refl
-and_all false = refl
 
 -- each byte's answer added to those before it
 pub guns_folded : (all : Bool) (bytes : List ℕ) → fold (λ a byte. a && is_gun byte) all bytes ≡ all && each is_gun bytes
 unfolding each
-guns_folded all [] = sym (and_all all)
-guns_folded all (b ∷ bs) = guns_folded (all && is_gun b) bs ∙ sym (and_assoc all (is_gun b) (each is_gun bs))
+guns_folded all [] = sym (and-true all)
+guns_folded all (b ∷ bs) = guns_folded (all && is_gun b) bs ∙ and_assoc all (is_gun b) (each is_gun bs)
 
 module _ (bytes : List ℕ) where
   pub right_room : (room : ℕ) → read_right bytes room ≡ true → length bytes / 3 ≤ room
-  right_room room right = leb-true _ _ (and_split (each is_gun bytes && eqb (length bytes % 3) 0) (leb (length bytes / 3) room) right).1
+  right_room room right = leb-true _ _ (and_parts (each is_gun bytes && eqb (length bytes % 3) 0) (leb (length bytes / 3) room) right).1
 
   pub right_read : (o p : List ℕ) → read_right bytes (length o) ≡ true → p ≡ painted o 0 (length bytes / 3) (colour_read_at bytes)
       → (true ≡ read_right bytes (length o)) × (p ≡ read_leaves bytes o)

@@ -10,7 +10,7 @@ use lib.ListN.{length, get_or}
 use Rattle.buffers.specs.Bits.{bits}
 use Rattle.buffers.specs.Painted.{painted}
 use Rattle.buffers.proofs.Paints.{paints_of, paints_painted, paint_as}
-use Rattle.buffers.proofs.Tests.{and_join}
+use Rattle.std.proofs.lemmas.Bool.{and_from}
 use Rattle.colours.specs.Cells.{cell_colour}
 use Rattle.colours.specs.Guns.{red_gun, green_gun, blue_gun}
 use Rattle.pictures.specs.Colours.{red, green, blue, guns_of}
@@ -31,8 +31,8 @@ guns_all (x ∷ xs) =
 -- so that all are right where there is room for the cells,
 pub guns_right : (cells : List ℕ) (room : ℕ) → length cells ≤ room → read_right (guns_of cells) room ≡ true
 guns_right cells room h =
-    and_join
-    (and_join (guns_all cells) (eq-eqb (length (guns_of cells) % 3) 0 (omega (arith, length_guns cells))))
+    and_from _ _
+    (and_from _ _ (guns_all cells) (eq-eqb (length (guns_of cells) % 3) 0 (omega (arith, length_guns cells))))
     (le-leb (length (guns_of cells) / 3) room (omega (arith, length_guns cells)))
 
 -- The guns of a cell, put together, are its 12 bits of colour:

@@ -6,7 +6,7 @@ use Prim.Native.Nat.{ℕ, ◌≤◌}
 use lib.ListN.{length}
 use lib.Dec.{leb, ltb}
 use borrow.Author.Tests.{not-false, leb-true}
-use Rattle.buffers.proofs.Tests.{and_split}
+use Rattle.std.proofs.lemmas.Bool.{and_parts}
 use Rattle.refusals.specs.Table.{Why, given, refused, row, judged, and_then, unless_refused}
 use Rattle.refusals.proofs.Tables.{passed, given_passes, and_then_judged}
 use Rattle.plates.specs.Plate.{most_bytes, length_rule, trailer_rule, right, r_of, v_of, c_of, s_of, sections_of}
@@ -32,13 +32,13 @@ given_r file sections e = ap (λ (s : Sections). s.r) (right_given file sections
 halves :
     (file : List ℕ) → right file ≡ true
     → (length_rule (length file) ≡ true) × (trailer_rule (length file) (r_of file) (v_of file) (c_of file) (s_of file) ≡ true)
-halves file e = and_split (length_rule (length file)) (trailer_rule (length file) (r_of file) (v_of file) (c_of file) (s_of file)) e
+halves file e = and_parts (length_rule (length file)) (trailer_rule (length file) (r_of file) (v_of file) (c_of file) (s_of file)) e
 
 pub right_ordered : (file : List ℕ) → right file ≡ true → Ordered (length file) (r_of file) (v_of file) (c_of file) (s_of file)
 right_ordered file e = ordered _ _ _ _ _ (halves file e).1
 
 pub right_short : (file : List ℕ) → right file ≡ true → length file ≤ most_bytes
-right_short file e = leb-true (length file) most_bytes (and_split (leb 16 (length file)) (leb (length file) most_bytes) (halves file e).0).1
+right_short file e = leb-true (length file) most_bytes (and_parts (leb 16 (length file)) (leb (length file) most_bytes) (halves file e).0).1
 
 -- 13 is judged where the file is right
 pub copy_rows : (file : List ℕ) (places : ℕ)
