@@ -15,20 +15,20 @@ pub struct Stretch {
     pub count: usize,
 }
 
+// What a raster has that is not displayed.
+const NONE: Stretch = Stretch { start: 0, count: 0 };
+
 // Each displayed raster has w words, from the last one's end on.
 fn stretch_of(s: Setting, y: Rasters) -> Stretch
     requires { Accepted s }
     ensures { result ≡ stretch_of s y.0 }
 {
-    if y.0 < s.vds.0 {
-        return Stretch { start: 0, count: 0 };
+    if !(s.vds.0..s.vde.0).contains(&y.0) {
+        return NONE;
     }
-    if s.vde.0 <= y.0 {
-        return Stretch { start: 0, count: 0 };
-    }
-    let w = (s.de.0 - s.ds.0) as usize * s.depth as usize / 32;
+    let w = usize::from(s.de.0 - s.ds.0) * usize::from(s.depth) / 32;
     Stretch {
-        start: (y.0 - s.vds.0) as usize * w,
+        start: usize::from(y.0 - s.vds.0) * w,
         count: w,
     }
 }

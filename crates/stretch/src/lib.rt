@@ -17,12 +17,8 @@ pub fn raster_words(g: Registers, video: &[u32], y: Rasters) -> &[u32]
     ensures { PartOf video.entry result (stretch_told g video.now y.0) }
 {
     match find(g, video, y) {
-        Err(_) => &video[0..0],
-        Ok(stretch) => {
-            let start = stretch.start;
-            let end = start + stretch.count;
-            &video[start..end]
-        }
+        Ok(stretch) => &video[stretch.start..stretch.start + stretch.count],
+        Err(_) => &video[..0],
     }
 }
 

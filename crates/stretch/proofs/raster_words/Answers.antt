@@ -4,14 +4,14 @@ use mathlib.Core.Path.{refl}
 use native.Mathlib.Omega.{arith}
 use Rattle.stretch.proofs.raster_words.Goals as goal
 
-pub overflow_add-end : goal.overflow_add-end
-overflow_add-end c = omega (arith, words_room _ _ _ c.in-Ok.ensures)
+pub overflow_add-result : goal.overflow_add-result
+overflow_add-result c = omega (arith, words_room _ _ _ c.in-Ok.ensures)
 
-pub offset_bounds-video-start : goal.offset_bounds-video-start
-offset_bounds-video-start c = omega (arith, words_room _ _ _ c.in-Ok.ensures)
+pub offset_bounds-video-stretch : goal.offset_bounds-video-stretch
+offset_bounds-video-stretch c = omega (arith, words_room _ _ _ c.in-Ok.ensures)
 
-pub slice_bounds-result-end-in-Ok : goal.slice_bounds-result-end-in-Ok
-slice_bounds-result-end-in-Ok c = words_room _ _ _ c.in-Ok.ensures
+pub slice_bounds-result-end : goal.slice_bounds-result-end
+slice_bounds-result-end c = words_room _ _ _ c.in-Ok.ensures
 
 pub returns-in-Err : goal.returns-in-Err
 returns-in-Err c = returned_none _ _ _ _ refl _ c.in-Err.ensures refl (omega arith)
