@@ -1,7 +1,6 @@
 -- Masks of the pixels seen: none, one, two masks together, the pixels of a byte, and a table of masks filled entry by entry.
 use Prim.Native.Nat.{ℕ, suc, ◌+◌, ◌-◌, ◌*◌, ◌/◌, ◌%◌, ◌^◌, ◌<◌, ◌≤◌, max}
 use mathlib.Core.Bool.{Bool, true, false}
-use mathlib.Core.List.{List}
 use mathlib.Core.Logic.{inl, inr}
 use mathlib.Core.Path.{◌≡◌, refl, sym, ◌∙◌, ap}
 use native.Mathlib.Nat.{one-mul, zero-div, div_self, div-eq_of_lt, mod-lt}
@@ -9,15 +8,14 @@ use native.Mathlib.Omega.{arith}
 use borrow.Author.Tests.{eqb-true, eqb-false}
 use lib.Bits.{bit_or, or_step, or_shr, shifted_even}
 use lib.Dec.{ltb, eqb}
-use lib.ListN.{length, get_or, set, length-set}
+use lib.ListN.{get_or}
 use lib.Pow.{pow_pos, pow_mono, pow-lt, pow-add, shl_exact, shl-shr}
 use Rattle.buffers.specs.Pick.{pick}
 use Rattle.buffers.proofs.Split.{lt_or_le}
 use Rattle.marks.specs.Count.{total, bit}
-use Rattle.marks.specs.inner.Bright.{field_bright, byte_bright}
-use Rattle.marks.specs.inner.Seen.{only, Masked, Masks}
+use Rattle.marks.specs.inner.Bright.{field_bright}
+use Rattle.marks.specs.inner.Seen.{only, Masked}
 use Rattle.marks.proofs.Flags.{only_at, joined}
-use Rattle.marks.proofs.Tabled.{each_more}
 use Rattle.marks.proofs.Totals.{total_more}
 
 -- A bit tells its test.
@@ -75,20 +73,10 @@ pub bits_low : (x d : ℕ) → d ≤ 4 → x % 2 ^ d < 16
 bits_low x d l = omega (arith, mod-lt x (pow_pos d), pow_mono {j = 4} l)
 
 -- A byte's pixel j among those below it.
-pub byte_held : (d byte rest mask low j : ℕ) → d ≤ 4 → rest ≡ byte / 2 ^ (j * d) → low ≡ rest % 2 ^ d
+pub byte_held : (d byte mask low j : ℕ) → d ≤ 4 → low ≡ byte / 2 ^ (j * d) % 2 ^ d
     → Masked mask (λ q. total (field_bright (only q) d byte) j)
     → Masked (bit_or mask (1 * 2 ^ low % 2 ^ 32)) (λ q. total (field_bright (only q) d byte) (j + 1))
-byte_held d byte rest mask low j l e f m =
+byte_held d byte mask low j l e m =
     let one : 1 * 2 ^ low % 2 ^ 32 ≡ 2 ^ low =
-    shl_exact {a = 1} 1 low 32 (omega arith) (omega (arith, bits_low rest d l)) ∙ one-mul (2 ^ low) in
-    rw one (masked_as (λ q h. rw (total_more, ← e, ← f)) (masked_or m (masked_one low)))
-
-pub masks_none : {masks : List ℕ} (d : ℕ) → length masks ≡ 256 → Masks masks d 0
-masks_none d e = record { len = e; on = λ b l. absurd (omega arith) }
-
-pub masks_more : {masks : List ℕ} {d k v : ℕ} → Masks masks d k → k < 256 → Masked v (λ q. byte_bright (only q) d k) → Masks (set masks k v) d (k + 1)
-masks_more {masks} {d} {k} {v} m l h =
-    record {
-      len = length-set masks k v ∙ m.len;
-      on = each_more masks k v (λ b w. Masked w (λ q. byte_bright (only q) d b)) (omega (arith, m.len)) m.on h;
-    }
+    shl_exact {a = 1} 1 low 32 (omega arith) (omega (arith, e, bits_low (byte / 2 ^ (j * d)) d l)) ∙ one-mul (2 ^ low) in
+    rw one (masked_as (λ q h. rw (total_more, ← e)) (masked_or m (masked_one low)))

@@ -1,18 +1,20 @@
 -- The least and the greatest of some numbers: one number further; and two rows of numbers that have the same ones have the same least and
 -- the same greatest.
-use Prim.Native.Nat.{ℕ, zero, suc, ◌+◌, ◌^◌, ◌<◌, ◌≤◌}
+use Prim.Native.Nat.{ℕ, zero, suc, ◌+◌, ◌^◌, ◌<◌, ◌≤◌, min, max}
 use mathlib.Core.Bool.{Bool, true, false}
 use mathlib.Core.Logic.{◌⊎◌, inl, inr}
+use mathlib.Core.List.{List}
 use mathlib.Core.Path.{◌≡◌, refl}
 use native.Mathlib.Numerals.{add-one}
 use native.Mathlib.Omega.{arith}
-use borrow.Author.Tests.{ltb-true, ltb-false}
+use borrow.Author.Tests.{ltb-true, ltb-false, eq-eqb, ne_eqb}
 use lib.Dec.{ltb, eqb}
+use lib.ListN.{get_or}
 use Rattle.buffers.specs.Pick.{pick}
 use Rattle.buffers.proofs.Split.{lt_or_le}
 use Rattle.registers.specs.inner.Accepted.{Depth}
 use Rattle.marks.specs.Extremes.{smaller, larger, least_of, greatest_of}
-use Rattle.marks.specs.inner.Seen.{pixels_for}
+use Rattle.marks.specs.inner.Seen.{pixels_for, flagged_grey}
 
 -- A choice between two numbers lies where both do.
 picked : (P : ℕ → Type 0) (t : Bool) (a b : ℕ) → P a → P b → P (pick t a b)
@@ -30,13 +32,30 @@ pub pixels_most : (d : ℕ) → pixels_for d ≤ 256
 pixels_most d =
     picked (λ n. n ≤ 256) (eqb d 8) 256 (pick (eqb d 4) 16 4) (omega arith) (picked (λ n. n ≤ 256) (eqb d 4) 16 4 (omega arith) (omega arith))
 
-pub least_more : {v w : ℕ} (f : ℕ → ℕ) (n : ℕ) → v ≡ least_of f n → w ≡ f n → smaller v w ≡ least_of f (n + 1)
+-- One number more, by the library's own least and greatest.
+pub least_more : {v w : ℕ} (f : ℕ → ℕ) (n : ℕ) → v ≡ least_of f n → w ≡ f n → min v w ≡ least_of f (n + 1)
 unfolding least_of
-least_more f n e h = rw (add-one, e, h)
+least_more {v} {w} f n e h = rw (add-one, ← e, ← h) (by (ltb w v) refl)
+  where
+    by : (t : Bool) → ltb w v ≡ t → min v w ≡ pick t w v
+    by true l = omega (arith, ltb-true w v l)
+    by false l = omega (arith, ltb-false w v l)
 
-pub greatest_more : {v w : ℕ} (f : ℕ → ℕ) (n : ℕ) → v ≡ greatest_of f n → w ≡ f n → larger v w ≡ greatest_of f (n + 1)
+pub greatest_more : {v w : ℕ} (f : ℕ → ℕ) (n : ℕ) → v ≡ greatest_of f n → w ≡ f n → max v w ≡ greatest_of f (n + 1)
 unfolding greatest_of
-greatest_more f n e h = rw (add-one, e, h)
+greatest_more {v} {w} f n e h = rw (add-one, ← e, ← h) (by (ltb v w) refl)
+  where
+    by : (t : Bool) → ltb v w ≡ t → max v w ≡ pick t w v
+    by true l = omega (arith, ltb-true v w l)
+    by false l = omega (arith, ltb-false v w l)
+
+-- The grey of pixel q, by its flag.
+module _ (greys flags : List ℕ) (none q : ℕ) where
+  pub flag_clear : get_or flags q 0 ≡ 0 → none ≡ flagged_grey greys flags none q
+  flag_clear e = rw (eq-eqb (get_or flags q 0) 0 e)
+
+  pub flag_set : (get_or flags q 0 ≡ 0 → ⊥) → get_or greys q 0 ≡ flagged_grey greys flags none q
+  flag_set n = rw (ne_eqb (get_or flags q 0) 0 n)
 
 smaller_left : (a b : ℕ) → smaller a b ≤ a
 smaller_left a b = by (ltb b a) refl

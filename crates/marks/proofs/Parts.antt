@@ -12,7 +12,7 @@ use Rattle.registers.specs.declared.setting.Setting.{Setting}
 use Rattle.registers.specs.inner.Accepted.{Depth, Accepted}
 use Rattle.cells.proofs.RasterWords.{whole_pixels}
 use Rattle.cells.proofs.Regions.{covered_reached}
-use Rattle.marks.specs.declared.part.Part.{Part}
+use Rattle.std.specs.declared.ops.Range.{Range}
 use Rattle.marks.specs.inner.Shown.{CursorPart}
 
 -- A word holds some pixels.
@@ -36,7 +36,7 @@ module _ (per : ℕ) (some : 0 < per) where
   up_holds r p h = omega (arith, lt-div-mul-add {a = r + per - 1} some)
 
 module _ (s : Setting) (a : Accepted s) (y : ℕ) where
-  pub part_none : not s.cursor || ltb y s.vcs.0 || leb s.vce.0 y ≡ true → CursorPart s y (record { from = 0; to = 0 })
+  pub part_none : not s.cursor || ltb y s.vcs.0 || leb s.vce.0 y ≡ true → CursorPart s y (record { start = 0; end = 0 })
   part_none e =
       record {
         order = omega arith;
@@ -48,7 +48,7 @@ module _ (s : Setting) (a : Accepted s) (y : ℕ) where
 
   pub part_some : {left right : ℕ} → left ≡ min (s.cx.0 - s.ds.0) (s.de.0 - s.ds.0)
       → right ≡ min (s.cx.0 + 32 - s.ds.0) (s.de.0 - s.ds.0)
-      → CursorPart s y (record { from = left / (32 / s.depth); to = (right + 32 / s.depth - 1) / (32 / s.depth) })
+      → CursorPart s y (record { start = left / (32 / s.depth); end = (right + 32 / s.depth - 1) / (32 / s.depth) })
   part_some {left} {right} e f =
       let per = 32 / s.depth in
       let some : 0 < per = per_word a.depth in
@@ -61,8 +61,8 @@ module _ (s : Setting) (a : Accepted s) (y : ℕ) where
       }
 
 -- The part's positions lie in the display.
-pub part_inside : (s : Setting) {y : ℕ} {part : Part} → Accepted s → CursorPart s y part
-    → (part.from * (32 / s.depth) ≤ part.to * (32 / s.depth)) × (part.to * (32 / s.depth) ≤ s.de.0 - s.ds.0)
+pub part_inside : (s : Setting) {y : ℕ} {part : Range ℕ} → Accepted s → CursorPart s y part
+    → (part.start * (32 / s.depth) ≤ part.end * (32 / s.depth)) × (part.end * (32 / s.depth) ≤ s.de.0 - s.ds.0)
     × (s.de.0 - s.ds.0 ≤ 2048)
 part_inside s a c = (
   mul-le-mul_right (32 / s.depth) c.order,

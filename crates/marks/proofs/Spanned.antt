@@ -1,30 +1,28 @@
 -- The pixels of whole words: by masks, by flags, and as a sum, word after word; the mask and the flags tell of the same pixels.
-use Prim.Native.Nat.{ℕ, zero, suc, ◌+◌, ◌-◌, ◌*◌, ◌/◌, ◌%◌, ◌^◌, ◌<◌, ◌≤◌}
+use Prim.Native.Nat.{ℕ, zero, suc, ◌+◌, ◌*◌, ◌/◌, ◌%◌, ◌^◌, ◌<◌, ◌≤◌}
 use mathlib.Core.Bool.{Bool, true, false}
 use mathlib.Core.List.{List, []}
 use mathlib.Core.Logic.{inl, inr}
 use mathlib.Core.Path.{◌≡◌, refl, sym, ◌∙◌, ap}
-use native.Mathlib.Nat.{zero-add, div-one, mod-lt, mod-eq_of_lt, sub_self, add-sub_of_le}
+use native.Mathlib.Nat.{zero-add, div-one, mod-lt, mod-eq_of_lt}
 use native.Mathlib.Numerals.{add-one}
 use native.Mathlib.Omega.{arith}
 use borrow.Author.Tests.{eqb-true, eqb-false, lt-ltb, le-ltb, ne_eqb}
 use lib.Bits.{bit_or}
 use lib.Dec.{ltb, eqb}
-use lib.ListN.{length, get_or, set, replicate}
+use lib.ListN.{length, get_or, set, replicate, drop}
+use Rattle.std.specs.Simd.{first_chunks}
+use Rattle.std.proofs.Common.{get_or-take, get_or-drop}
 use Rattle.buffers.specs.Pick.{pick}
 use Rattle.buffers.proofs.Split.{lt_or_le}
 use Rattle.buffers.proofs.Paints.{Paints, paints_of}
 use Rattle.marks.specs.Count.{total, bit}
-use Rattle.marks.specs.inner.Bright.{Tabled, AtMost, field, field_bright, byte_bright, word_bright, word_from}
+use Rattle.marks.specs.inner.Bright.{Tabled, AtMost, field, field_bright, byte_bright, word_bright, word_bright_at}
 use Rattle.marks.specs.inner.Seen.{only, bytes_only, words_seen, Flagged, Masked, Masks, word_mask, words_mask, mask_times}
 use Rattle.marks.proofs.Flags.{only_at, flagged_none, flagged_as, flagged_join, flagged_one}
 use Rattle.marks.proofs.Held.{bit_on, bits_low, masked_none, masked_as, masked_or}
 use Rattle.marks.proofs.Tabled.{word_most}
-use Rattle.marks.proofs.Totals.{sum_more, total_as, total_none, total_most}
-
--- The place after k, counted from another.
-next_place : (from k : ℕ) → from ≤ k → k + 1 - from ≡ k - from + 1
-next_place from k l = omega arith
+use Rattle.marks.proofs.Totals.{total_more, total_as, total_none, total_most, sums_more}
 
 pub bytes_only_holds : (d q : ℕ) → Tabled (bytes_only d q) 256 (byte_bright (only q) d)
 unfolding bytes_only
@@ -43,38 +41,45 @@ word_as bytes others w e =
       e (w / 0x100_0000 % 256) (mod-lt _ (omega arith)),
     )
 
--- No word yet in a sum, in a mask, and among flags.
-module _ (ws : List ℕ) (from : ℕ) where
-  pub count_none : (bytes : List ℕ) → 0 ≡ total (word_from bytes ws from) (from - from)
-  unfolding total
-  count_none bytes = rw (sub_self from)
-
-  pub mask_none : (masks : List ℕ) → 0 ≡ words_mask masks ws from (from - from)
-  unfolding words_mask
-  mask_none masks = rw (sub_self from)
-
-  pub flags_none : (flags : List ℕ) → Flagged flags flags (λ q. total (word_from (only q) ws from) (from - from))
-  flags_none flags = flagged_none flags _ (λ q l. sym (count_none (only q)))
-
 -- One word more in a sum, in a mask, and among flags.
-module _ (ws : List ℕ) (from k : ℕ) (l : from ≤ k) where
-  pub count_more : {sum v : ℕ} (bytes : List ℕ) → sum ≡ total (word_from bytes ws from) (k - from) → v ≡ word_bright bytes (get_or ws k 0)
-      → sum + v ≡ total (word_from bytes ws from) (k + 1 - from)
-  count_more bytes e f =
-      rw (next_place from k l) (sum_more (word_from bytes ws from) (k - from) e (f ∙ ap (λ i. word_bright bytes (get_or ws i 0)) (sym (add-sub_of_le l))))
-
-  pub mask_more : {mask v : ℕ} (masks : List ℕ) → mask ≡ words_mask masks ws from (k - from) → v ≡ word_mask masks (get_or ws k 0)
-      → bit_or mask v ≡ words_mask masks ws from (k + 1 - from)
+module _ (ws : List ℕ) (n : ℕ) where
+  pub mask_more : {mask v : ℕ} (masks : List ℕ) → mask ≡ words_mask masks ws n → v ≡ word_mask masks (get_or ws n 0)
+      → bit_or mask v ≡ words_mask masks ws (n + 1)
   unfolding words_mask
-  mask_more masks e f = rw (next_place from k l, add-one, add-sub_of_le l, e, f)
+  mask_more masks e f = rw (add-one, e, f)
 
-  pub flags_more : {old mid new : List ℕ} → Flagged old mid (λ q. total (word_from (only q) ws from) (k - from))
-      → Flagged mid new (λ q. word_bright (only q) (get_or ws k 0)) → Flagged old new (λ q. total (word_from (only q) ws from) (k + 1 - from))
-  flags_more f h = flagged_as (λ q m. ap (ltb 0) (count_more (only q) refl refl)) (flagged_join f h)
+  pub flags_more : {old mid new : List ℕ} → Flagged old mid (λ q. total (word_bright_at (only q) ws) n)
+      → Flagged mid new (λ q. word_bright (only q) (get_or ws n 0)) → Flagged old new (λ q. total (word_bright_at (only q) ws) (n + 1))
+  flags_more f h = flagged_as (λ q m. ap (ltb 0) (sym (total_more (word_bright_at (only q) ws) n))) (flagged_join f h)
 
-pub span_most : {sum : ℕ} (bytes ws : List ℕ) (from n : ℕ) → AtMost bytes 255 → n ≤ 512 → sum ≡ total (word_from bytes ws from) n → sum ≤ 1020 * 512
-span_most bytes ws from n m l e =
-    omega (arith, e, total_most (word_from bytes ws from) 1020 n (λ k h. word_most bytes (get_or ws (from + k) 0) m))
+pub words_most : (bytes ws : List ℕ) (n : ℕ) → AtMost bytes 255 → total (word_bright_at bytes ws) n ≤ n * 1020
+words_most bytes ws n m = total_most (word_bright_at bytes ws) 1020 n (λ k h. word_most bytes (get_or ws k 0) m)
+
+pub span_most : {sum : ℕ} (bytes ws : List ℕ) (n : ℕ) → AtMost bytes 255 → n ≤ 512 → sum ≡ total (word_bright_at bytes ws) n → sum ≤ 1020 * 512
+span_most bytes ws n m l e = omega (arith, e, words_most bytes ws n m)
+
+-- Word j of the list's four i.
+pub four_at : (m : ℕ) (ws d : List ℕ) (i j : ℕ) → i < m → j < 4 → get_or (get_or (first_chunks 4 m ws) i d) j 0 ≡ get_or ws (4 * i + j) 0
+four_at zero ws d i j l h = absurd (omega arith)
+four_at (suc m) ws d zero j l h = get_or-take 4 ws j 0 h ∙ ap (λ k. get_or ws k 0) (omega arith)
+four_at (suc m) ws d (suc i) j l h =
+    four_at m (drop 4 ws) d i j (omega arith) h ∙ get_or-drop 4 ws (4 * i + j) 0 ∙ ap (λ k. get_or ws k 0) (omega arith)
+
+-- Four sums, each with a word of four more.
+pub fours_more : (bytes ws d : List ℕ) (fours : List (List ℕ)) (a b c e i : ℕ) {v w x y : ℕ} → fours ≡ first_chunks 4 (length ws / 4) ws
+    → i < length ws / 4 → a + b + c + e ≡ total (word_bright_at bytes ws) (4 * i)
+    → v ≡ word_bright bytes (get_or (get_or fours i d) 0 0) → w ≡ word_bright bytes (get_or (get_or fours i d) 1 0)
+    → x ≡ word_bright bytes (get_or (get_or fours i d) 2 0) → y ≡ word_bright bytes (get_or (get_or fours i d) 3 0)
+    → a + v + (b + w) + (c + x) + (e + y) ≡ total (word_bright_at bytes ws) (4 * (i + 1))
+fours_more bytes ws d fours a b c e i q l sum f g h k =
+    let at : (j : ℕ) → j < 4 → word_bright bytes (get_or (get_or fours i d) j 0) ≡ word_bright_at bytes ws (4 * i + j) =
+    λ j m. ap (λ fs. word_bright bytes (get_or (get_or fs i d) j 0)) q ∙ ap (word_bright bytes) (four_at (length ws / 4) ws d i j l m) in
+    let none : 4 * i + 0 ≡ 4 * i = omega arith in
+    let next : 4 * i + 4 ≡ 4 * (i + 1) = omega arith in
+    let first : word_bright bytes (get_or (get_or fours i d) 0 0) ≡ word_bright_at bytes ws (4 * i) =
+    at 0 (omega arith) ∙ ap (word_bright_at bytes ws) none in
+    sums_more a b c e (word_bright_at bytes ws) (4 * i) sum (f ∙ first) (g ∙ at 1 (omega arith)) (h ∙ at 2 (omega arith)) (k ∙ at 3 (omega arith))
+    ∙ ap (total (word_bright_at bytes ws)) next
 
 -- A word's bytes, flagged one after another.
 pub flagged_word : (flags : List ℕ) (w : ℕ) → length flags ≡ 256
@@ -128,7 +133,7 @@ bit_clear mask n b f =
     ap (ltb 0) more)
     f
 
-module _ (masks : List ℕ) (d : ℕ) (m : Masks masks d 256) where
+module _ (masks : List ℕ) (d : ℕ) (m : Masks masks d) where
   word_masked : (w : ℕ) → Masked (word_mask masks w) (λ q. word_bright (bytes_only d q) w)
   word_masked w =
       let one : (x : ℕ) → Masked (get_or masks (x % 256) 0) (λ q. get_or (bytes_only d q) (x % 256) 0) =
@@ -137,10 +142,10 @@ module _ (masks : List ℕ) (d : ℕ) (m : Masks masks d 256) where
       masked_as (λ q h. sym ((bytes_only_holds d q).on (x % 256) l)) (m.on (x % 256) l) in
       masked_or (masked_or (masked_or (one w) (one (w / 0x100))) (one (w / 0x1_0000))) (one (w / 0x100_0000))
 
-  words_masked : (ws : List ℕ) (from n : ℕ) → Masked (words_mask masks ws from n) (words_seen d ws from n)
+  words_masked : (ws : List ℕ) (n : ℕ) → Masked (words_mask masks ws n) (words_seen d ws n)
   unfolding words_mask words_seen total
-  words_masked ws from zero = masked_none
-  words_masked ws from (suc n) = masked_or (words_masked ws from n) (word_masked (get_or ws (from + n) 0))
+  words_masked ws zero = masked_none
+  words_masked ws (suc n) = masked_or (words_masked ws n) (word_masked (get_or ws n 0))
 
 -- Sixteen and above is no pixel at depths up to 4.
 byte_unseen : (d b q : ℕ) → d ≤ 4 → 16 ≤ q → q < 256 → byte_bright (only q) d b ≡ 0
@@ -149,11 +154,11 @@ byte_unseen d b q l h m =
     total_none (field_bright (only q) d b) (8 / d)
     (λ j i. only_at q (field b d j) m ∙ ap bit (ne_eqb (field b d j) q (λ e. omega (arith, bits_low (b / 2 ^ (j * d)) d l))))
 
-words_unseen : (d : ℕ) (ws : List ℕ) (from n q : ℕ) → d ≤ 4 → 16 ≤ q → q < 256 → words_seen d ws from n q ≡ 0
+words_unseen : (d : ℕ) (ws : List ℕ) (n q : ℕ) → d ≤ 4 → 16 ≤ q → q < 256 → words_seen d ws n q ≡ 0
 unfolding words_seen
-words_unseen d ws from n q l h m =
-    total_none (word_from (bytes_only d q) ws from) n
-    (λ k i. word_as (bytes_only d q) [] (get_or ws (from + k) 0) (λ b j. (bytes_only_holds d q).on b j ∙ byte_unseen d b q l h m))
+words_unseen d ws n q l h m =
+    total_none (word_bright_at (bytes_only d q) ws) n
+    (λ k i. word_as (bytes_only d q) [] (get_or ws k 0) (λ b j. (bytes_only_holds d q).on b j ∙ byte_unseen d b q l h m))
 
 mask_tells : {mask : ℕ} {times : ℕ → ℕ} → Masked mask times → ((q : ℕ) → 16 ≤ q → q < 256 → times q ≡ 0)
     → (q : ℕ) → q < 256 → ltb 0 (mask_times mask q) ≡ ltb 0 (times q)
@@ -164,22 +169,22 @@ mask_tells {mask} {times} m none q h =
     ]
 
 -- The pixels of a mask's words, flagged.
-pub masked_flagged : {mask : ℕ} {old new : List ℕ} (d : ℕ) (masks ws : List ℕ) (from n : ℕ) → d ≤ 4 → Masks masks d 256
-    → mask ≡ words_mask masks ws from n → Flagged old new (mask_times mask) → Flagged old new (words_seen d ws from n)
-masked_flagged d masks ws from n l m e f =
-    flagged_as (mask_tells (rw e (words_masked masks d m ws from n)) (λ q. words_unseen d ws from n q l)) f
+pub masked_flagged : {mask : ℕ} {old new : List ℕ} (d : ℕ) (masks ws : List ℕ) (n : ℕ) → d ≤ 4 → Masks masks d
+    → mask ≡ words_mask masks ws n → Flagged old new (mask_times mask) → Flagged old new (words_seen d ws n)
+masked_flagged d masks ws n l m e f =
+    flagged_as (mask_tells (rw e (words_masked masks d m ws n)) (λ q. words_unseen d ws n q l)) f
 
 -- At depth 8 a byte is a pixel.
 byte_eight : (q b : ℕ) → b < 256 → get_or (bytes_only 8 q) b 0 ≡ get_or (only q) b 0
 unfolding byte_bright total
 byte_eight q b l = (bytes_only_holds 8 q).on b l ∙ rw (zero-add, div-one, mod-eq_of_lt)
 
-pub eight_flagged : {old new : List ℕ} (ws : List ℕ) (from n : ℕ) → Flagged old new (λ q. total (word_from (only q) ws from) n)
-    → Flagged old new (words_seen 8 ws from n)
+pub eight_flagged : {old new : List ℕ} (ws : List ℕ) (n : ℕ) → Flagged old new (λ q. total (word_bright_at (only q) ws) n)
+    → Flagged old new (words_seen 8 ws n)
 unfolding words_seen
-eight_flagged ws from n f =
+eight_flagged ws n f =
     flagged_as
     (λ q l. ap (ltb 0)
-    (total_as (word_from (only q) ws from) (word_from (bytes_only 8 q) ws from) n
-    (λ k m. word_as (only q) (bytes_only 8 q) (get_or ws (from + k) 0) (λ b j. sym (byte_eight q b j)))))
+    (total_as (word_bright_at (only q) ws) (word_bright_at (bytes_only 8 q) ws) n
+    (λ k m. word_as (only q) (bytes_only 8 q) (get_or ws k 0) (λ b j. sym (byte_eight q b j)))))
     f

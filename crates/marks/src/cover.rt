@@ -16,22 +16,8 @@ pub fn place(s: Setting, x: Pixels, y: Rasters) -> usize
     requires { Accepted s × InDisplay s x.0 y.0 }
     ensures { result ≡ position s x.0 y.0 }
 {
-    (y.0 as usize - s.vds.0 as usize) * (s.de.0 as usize - s.ds.0 as usize)
-        + (x.0 as usize - s.ds.0 as usize)
-}
-
-fn wide(x: u8) -> u32
-    ensures { (result ≡ x) × (result ≤ 255) }
-{
-    x as u32
-}
-
-// A table's entry.
-pub fn entry(table: &[u8; 256], at: usize) -> u32
-    requires { at < 256 }
-    ensures { (result ≡ get_or table.now at 0) × (result ≤ 255) }
-{
-    wide(table[at])
+    (usize::from(y.0) - usize::from(s.vds.0)) * (usize::from(s.de.0) - usize::from(s.ds.0))
+        + (usize::from(x.0) - usize::from(s.ds.0))
 }
 
 // What the table has for the pixel of a displayed position.
@@ -40,7 +26,7 @@ fn shown_at(s: Setting, video: &[u32], pixels: &[u8; 256], x: Pixels, y: Rasters
     ensures { (result ≡ get_or pixels.now (logical s video.now x.0 y.0) 0) × (result ≤ 255) }
 {
     let at = place(s, x, y);
-    entry(pixels, pixel_at(video, s.depth as usize, at))
+    u32::from(pixels[pixel_at(video, usize::from(s.depth), at)])
 }
 
 // Bit pair i of cursor raster j.
@@ -64,13 +50,7 @@ fn covered_at(
     ensures { (result ≡ cursor_bright s video.now cursor.now pixels.now (s.vcs.0 + j) i) × (result ≤ 255) }
 {
     let x = Pixels(s.cx.0 + i as u16);
-    if x.0 < s.ds.0 {
-        return 0;
-    }
-    if x.0 >= s.de.0 {
-        return 0;
-    }
-    if pair_at(cursor, j, i) == 0 {
+    if x.0 < s.ds.0 || s.de.0 <= x.0 || pair_at(cursor, j, i) == 0 {
         return 0;
     }
     shown_at(s, video, pixels, x, Rasters(s.vcs.0 + j as u16))
@@ -82,17 +62,12 @@ fn covered_in(s: Setting, video: &[u32], cursor: &[u32], pixels: &[u8; 256], j: 
     ensures { (result ≡ cursor_raster s video.now cursor.now pixels.now j) × (result ≤ 8160) }
 {
     let y = Rasters(s.vcs.0 + j as u16);
-    if y.0 < s.vds.0 {
+    if y.0 < s.vds.0 || s.vde.0 <= y.0 {
         return 0;
     }
-    if y.0 >= s.vde.0 {
-        return 0;
-    }
-    let mut sum: u32 = 0;
-    let mut i: usize = 0;
-    while i < 32 {
+    let mut sum = 0;
+    for i in 0..32 {
         sum += covered_at(s, video, cursor, pixels, j, i);
-        i += 1;
     }
     sum
 }
@@ -102,12 +77,9 @@ pub fn covered(s: Setting, video: &[u32], cursor: &[u32], pixels: &[u8; 256]) ->
     requires { Picture s video.now cursor.now }
     ensures { result ≡ covered_all s video.now cursor.now pixels.now }
 {
-    let end = cursor.len() / 2;
-    let mut sum: u32 = 0;
-    let mut j: usize = 0;
-    while j < end {
+    let mut sum = 0;
+    for j in 0..cursor.len() / 2 {
         sum += covered_in(s, video, cursor, pixels, j);
-        j += 1;
     }
     sum
 }

@@ -36,10 +36,8 @@ pub fn put_entries(
     ensures { out.new
         ≡ painted out.old 0 (3 * rasters) (number_by greys.now pixels.now s video.now cursor.now) }
 {
-    let mut r = 0;
-    while r < rasters {
+    for r in 0..rasters {
         let entry = by_words(s, video, cursor, greys, pixels, bytes, masks, r);
         put_entry(out, r, entry);
-        r += 1;
     }
 }

@@ -19,7 +19,7 @@ pub fn raster_words(s: Setting) -> usize
     requires { Accepted s }
     ensures { result ≡ raster_words s }
 {
-    (s.de.0 as usize - s.ds.0 as usize) * s.depth as usize / 32
+    usize::from(s.de.0 - s.ds.0) * usize::from(s.depth) / 32
 }
 
 // Displayed raster r, pixel by pixel.
@@ -35,7 +35,7 @@ pub fn by_pixels(
     ensures { result ≡ entry_by greys.now pixels.now s video.now cursor.now (s.vds.0 + r) }
 {
     let y = Rasters(s.vds.0 + r as u16);
-    let width = s.de.width_from(s.ds).0 as usize;
+    let width = usize::from(s.de.width_from(s.ds).0);
     let mut flags = [0u8; 256];
     let count = shown_in(s, video, cursor, pixels, y, 0, width, &mut flags);
     entry_of(greys, &flags, s.depth, count)
@@ -57,25 +57,14 @@ pub fn by_words(
 {
     let y = Rasters(s.vds.0 + r as u16);
     let words = raster_words(s);
-    let per = 32 / s.depth as usize;
     let first = r * words;
-    let end = first + words;
+    let row = &video[first..first + words];
     let part = cursor_part(s, y);
-    let from = part.from;
-    let to = part.to;
-    let depth = s.depth;
+    let per = 32 / usize::from(s.depth);
+    let (from, to) = (part.start * per, part.end * per);
     let mut flags = [0u8; 256];
-    let left = span(depth, bytes, masks, video, first, first + from, &mut flags);
-    let middle = shown_in(
-        s,
-        video,
-        cursor,
-        pixels,
-        y,
-        from * per,
-        to * per,
-        &mut flags,
-    );
-    let right = span(depth, bytes, masks, video, first + to, end, &mut flags);
-    entry_of(greys, &flags, depth, left + middle + right)
+    let left = span(s.depth, bytes, masks, &row[..part.start], &mut flags);
+    let middle = shown_in(s, video, cursor, pixels, y, from, to, &mut flags);
+    let right = span(s.depth, bytes, masks, &row[part.end..], &mut flags);
+    entry_of(greys, &flags, s.depth, left + middle + right)
 }

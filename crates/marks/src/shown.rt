@@ -10,7 +10,7 @@ ghost use Rattle.marks.specs.inner.Bright.{AtMost};
 ghost use Rattle.marks.specs.inner.Seen.{only, Flagged};
 ghost use Rattle.marks.specs.inner.Shown.{shown_at, shown_total, seen_at, seen_from};
 
-use crate::cover::{entry, pair_at, place};
+use crate::cover::{pair_at, place};
 use crate::pixels::pixel_at;
 use registers::setting::Setting;
 use registers::units::{Pixels, Rasters};
@@ -28,10 +28,11 @@ fn is_covered(s: Setting, cursor: &[u32], x: Pixels, y: Rasters) -> bool
     requires { Accepted s × InDisplay s x.0 y.0 × (length cursor.now ≡ cursor_words s) }
     ensures { result ≡ covered s cursor.now x.0 y.0 }
 {
-    if is_in_cursor(s, x, y) {
-        return pair_at(cursor, (y.0 - s.vcs.0) as usize, (x.0 - s.cx.0) as usize) != 0;
+    if !is_in_cursor(s, x, y) {
+        return false;
     }
-    false
+    let (j, i) = (usize::from(y.0 - s.vcs.0), usize::from(x.0 - s.cx.0));
+    pair_at(cursor, j, i) != 0
 }
 
 // The pixel of a displayed position is flagged; what the table has for it is answered.
@@ -43,14 +44,14 @@ fn see(
     y: Rasters,
     flags: &mut [u8; 256],
 ) -> u32
-    requires { Accepted s × InDisplay s x.0 y.0 × (length video.now ≡ video_words s) × (length flags.old ≡ 256) }
+    requires { Accepted s × InDisplay s x.0 y.0 × (length video.now ≡ video_words s) }
     ensures { (result ≡ get_or pixels.now (logical s video.now x.0 y.0) 0)
         × Flagged flags.old flags.new (λ q. get_or (only q) (logical s video.now x.0 y.0) 0) }
 {
     let at = place(s, x, y);
-    let pixel = pixel_at(video, s.depth as usize, at);
+    let pixel = pixel_at(video, usize::from(s.depth), at);
     flags[pixel] = 1;
-    entry(pixels, pixel)
+    u32::from(pixels[pixel])
 }
 
 // Display position p.
@@ -64,7 +65,7 @@ fn shown_one(
     flags: &mut [u8; 256],
 ) -> u32
     requires { Picture s video.now cursor.now × (s.vds.0 ≤ y.0) × (y.0 < s.vde.0) × (p < s.de.0 - s.ds.0)
-        × AtMost pixels.now 1 × (length flags.old ≡ 256) }
+        × AtMost pixels.now 1 }
     ensures { (result ≡ shown_at s video.now cursor.now pixels.now y.0 p) × (result ≤ 1)
         × Flagged flags.old flags.new (seen_at s video.now cursor.now y.0 p) }
 {
@@ -87,16 +88,14 @@ pub fn shown_in(
     flags: &mut [u8; 256],
 ) -> u32
     requires { Picture s video.now cursor.now × (s.vds.0 ≤ y.0) × (y.0 < s.vde.0) × (from ≤ to)
-        × (to ≤ s.de.0 - s.ds.0) × AtMost pixels.now 1 × (length flags.old ≡ 256) }
+        × (to ≤ s.de.0 - s.ds.0) × AtMost pixels.now 1 }
     ensures { (result ≡ shown_total s video.now cursor.now pixels.now y.0 from (to - from))
         × (result ≤ 2048)
         × Flagged flags.old flags.new (seen_from s video.now cursor.now y.0 from (to - from)) }
 {
-    let mut sum: u32 = 0;
-    let mut p = from;
-    while p < to {
+    let mut sum = 0;
+    for p in from..to {
         sum += shown_one(s, video, cursor, pixels, y, p, flags);
-        p += 1;
     }
     sum
 }

@@ -19,7 +19,7 @@ use registers::setting::Setting;
 fn displayed_rasters(s: Setting) -> usize
     ensures { result ≡ displayed_rasters s }
 {
-    s.vde.height_from(s.vds).0 as usize
+    usize::from(s.vde.height_from(s.vds).0)
 }
 
 // The entries of a picture that is given: 13, or all of them.

@@ -39,16 +39,13 @@ byte_bright pixels d b = total (field_bright pixels d b) (8 / d)
 abbrev pub pixel_bright : List ℕ → List ℕ → ℕ → ℕ → ℕ
 pixel_bright pixels ws d i = get_or pixels (pixel ws d i) 0
 
--- A table of bytes, over the four bytes of a word, over the words of a list, and from one of them on.
+-- A table of bytes, over the four bytes of a word, and over the words of a list.
 abbrev pub word_bright : List ℕ → ℕ → ℕ
 word_bright bytes w =
     get_or bytes (w % 256) 0 + get_or bytes (w / 0x100 % 256) 0 + get_or bytes (w / 0x1_0000 % 256) 0 + get_or bytes (w / 0x100_0000 % 256) 0
 
 abbrev pub word_bright_at : List ℕ → List ℕ → ℕ → ℕ
 word_bright_at bytes ws k = word_bright bytes (get_or ws k 0)
-
-abbrev pub word_from : List ℕ → List ℕ → ℕ → ℕ → ℕ
-word_from bytes ws from k = word_bright_at bytes ws (from + k)
 
 -- Position x of raster y, where code 5 would apply and the cursor covers it.
 abbrev pub covered_bright : Setting → List ℕ → List ℕ → List ℕ → ℕ → ℕ → ℕ

@@ -1,24 +1,24 @@
 -- Which pixels were seen: how often pixel q was, by a table that has 1 for it alone; a flag for each of 256, or a bit for each of sixteen.
 -- No public promise reaches this.
-use Rattle.std.specs.Prelude.{ℕ, zero, suc, ◌+◌, ◌/◌, ◌%◌, ◌^◌, ◌<◌, List, ◌≡◌, ltb, eqb, length, get_or, set, replicate}
+use Rattle.std.specs.Prelude.{ℕ, zero, suc, ◌/◌, ◌%◌, ◌^◌, ◌<◌, List, ◌≡◌, ltb, eqb, length, get_or, set, replicate}
 use Rattle.std.specs.Int.Bits.{bit_or}
 use Rattle.buffers.specs.Pick.{pick}
 use Rattle.buffers.specs.Painted.{painted}
 use Rattle.marks.specs.Count.{total, bit}
 use Rattle.marks.specs.Extremes.{least_of, greatest_of}
 use Rattle.marks.specs.declared.entry.Entry.{Entry}
-use Rattle.marks.specs.inner.Bright.{byte_bright, word_from}
+use Rattle.marks.specs.inner.Bright.{byte_bright, word_bright_at}
 
 -- A table that has 1 for pixel q alone.
 unfoldable pub only : ℕ → List ℕ
 only q = set (replicate 256 0) q 1
 
--- For each byte how many of its pixels are q, and how many of the pixels of n words are, from one place on.
+-- For each byte how many of its pixels are q, and how many of the pixels of the first n words are.
 unfoldable pub bytes_only : ℕ → ℕ → List ℕ
 bytes_only d q = painted (replicate 256 0) 0 256 (byte_bright (only q) d)
 
-unfoldable pub words_seen : ℕ → List ℕ → ℕ → ℕ → ℕ → ℕ
-words_seen d ws from n q = total (word_from (bytes_only d q) ws from) n
+unfoldable pub words_seen : ℕ → List ℕ → ℕ → ℕ → ℕ
+words_seen d ws n q = total (word_bright_at (bytes_only d q) ws) n
 
 -- Flags: 1 for each pixel that was seen some times, else what was there.
 pub record Flagged (old new : List ℕ) (times : ℕ → ℕ) : Type 0 where
@@ -30,19 +30,19 @@ pub record Masked (mask : ℕ) (times : ℕ → ℕ) : Type 0 where
   pub on : (q : ℕ) → q < 16 → mask / 2 ^ q % 2 ≡ bit (ltb 0 (times q))
 
 -- For each byte a mask of its pixels.
-pub record Masks (masks : List ℕ) (d n : ℕ) : Type 0 where
+pub record Masks (masks : List ℕ) (d : ℕ) : Type 0 where
   pub len : length masks ≡ 256
-  pub on : (b : ℕ) → b < n → Masked (get_or masks b 0) (λ q. byte_bright (only q) d b)
+  pub on : (b : ℕ) → b < 256 → Masked (get_or masks b 0) (λ q. byte_bright (only q) d b)
 
--- The masks of a word's bytes together, and those of n words from one place on.
+-- The masks of a word's bytes together, and those of the first n words.
 abbrev pub word_mask : List ℕ → ℕ → ℕ
 word_mask masks w =
     bit_or (bit_or (bit_or (get_or masks (w % 256) 0) (get_or masks (w / 0x100 % 256) 0)) (get_or masks (w / 0x1_0000 % 256) 0))
     (get_or masks (w / 0x100_0000 % 256) 0)
 
-unfoldable pub words_mask : List ℕ → List ℕ → ℕ → ℕ → ℕ
-words_mask masks ws from zero = 0
-words_mask masks ws from (suc n) = bit_or (words_mask masks ws from n) (word_mask masks (get_or ws (from + n) 0))
+unfoldable pub words_mask : List ℕ → List ℕ → ℕ → ℕ
+words_mask masks ws zero = 0
+words_mask masks ws (suc n) = bit_or (words_mask masks ws n) (word_mask masks (get_or ws n 0))
 
 -- A mask's bits as times.
 abbrev pub mask_times : ℕ → ℕ → ℕ

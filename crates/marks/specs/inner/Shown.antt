@@ -1,4 +1,5 @@
 -- What a raster shows: sums of a table over its display positions, without those that the cursor covers. No public promise reaches this.
+use Rattle.std.specs.declared.ops.Range.{Range}
 use Rattle.std.specs.Prelude.{ℕ, ◌+◌, ◌*◌, ◌-◌, ◌/◌, ◌%◌, ◌<◌, ◌≤◌, true, List, ◌≡◌, ltb, leb, get_or}
 use Rattle.buffers.specs.Pick.{pick}
 use Rattle.registers.specs.Setting.{raster_words}
@@ -14,7 +15,6 @@ use Rattle.marks.specs.Summaries.{number_of}
 use Rattle.marks.specs.inner.Bright.{Tabled, AtMost, byte_bright}
 use Rattle.marks.specs.inner.Seen.{only, Masks, pixels_for}
 use Rattle.marks.specs.declared.entry.Entry.{Entry}
-use Rattle.marks.specs.declared.part.Part.{Part}
 
 -- The grey that a pixel shows.
 abbrev pub grey_at : Registers → ℕ → ℕ → ℕ
@@ -61,11 +61,11 @@ number_by greys pixels s video cursor k = number_of (entry_by greys pixels s vid
 pub record RasterTables (pixels bytes masks : List ℕ) (d : ℕ) : Type 0 where
   pub few : AtMost pixels 1
   pub summed : Tabled bytes 256 (byte_bright pixels d)
-  pub held : d ≤ 4 → Masks masks d 256
+  pub held : d ≤ 4 → Masks masks d
 
 -- Of a displayed raster's words those from one up to another, outside of which the cursor covers nothing.
-pub record CursorPart (s : Setting) (y : ℕ) (part : Part) : Type 0 where
-  pub order : part.from ≤ part.to
-  pub inside : part.to ≤ raster_words s
+pub record CursorPart (s : Setting) (y : ℕ) (part : Range ℕ) : Type 0 where
+  pub order : part.start ≤ part.end
+  pub inside : part.end ≤ raster_words s
   pub only : (cursor : List ℕ) (p : ℕ) → p < s.de.0 - s.ds.0 → covered s cursor (s.ds.0 + p) y ≡ true
-      → (part.from * (32 / s.depth) ≤ p) × (p < part.to * (32 / s.depth))
+      → (part.start * (32 / s.depth) ≤ p) × (p < part.end * (32 / s.depth))

@@ -1,25 +1,30 @@
--- Pixel after pixel: after each turn the least and the greatest are those of the flagged ones below q.
-use mathlib.Core.Path.{◌≡◌, refl, ◌∙◌}
-use native.Mathlib.Omega.{arith}
+-- A pixel more is its grey more among those that are flagged.
+use Rattle.std.proofs.Common.{refl, ◌≡◌, ◌∙◌}
 use Rattle.marks.specs.Extremes.{least_of, greatest_of}
 use Rattle.marks.specs.inner.Seen.{flagged_grey}
-use Rattle.marks.proofs.Least.{least_more, greatest_more}
+use Rattle.marks.proofs.Least.{least_more, greatest_more, flag_clear, flag_set}
 use Rattle.marks.proofs.extremes.entry_below.Goals as goal
+use Rattle.marks.proofs.extremes.entry_below.Goals.{then-flag-eq0, else-flag-eq0, then-flag-eq0-2, else-flag-eq0-2}
 
 pub loop-q-init : goal.loop-q-init
 unfolding least_of greatest_of
-loop-q-init c = (omega arith, refl, refl)
+loop-q-init g c = (refl, refl)
 
 pub loop-q-preserved : goal.loop-q-preserved
-loop-q-preserved c =
-    let l = c.loop-q in (
-      omega arith,
-      c.smaller-least.ensures ∙ least_more (flagged_grey c.args.greys.now c.args.flags.now 255) l.q l.invariant.1 c.grey_or.ensures,
-      c.larger-greatest.ensures ∙ greatest_more (flagged_grey c.args.greys.now c.args.flags.now 0) l.q l.invariant.2 c.grey_or-in-loop-q.ensures,
+loop-q-preserved g c =
+    let q = c.loop-q.q in
+    let greys = c.args.greys.now in
+    let flags = c.args.flags.now in
+    let low : c.if-flag-eq0.min ≡ flagged_grey greys flags 255 q =
+    elim c.if-flag-eq0.branch [
+      | then-flag-eq0 w ↦ w.min-is ∙ flag_clear greys flags 255 q w.if-flag-eq0.true
+      | else-flag-eq0 w ↦ w.min-is ∙ flag_set greys flags 255 q w.if-flag-eq0.false
+    ] in
+    let high : c.if-flag-eq0-2.max ≡ flagged_grey greys flags 0 q =
+    elim c.if-flag-eq0-2.branch [
+      | then-flag-eq0-2 w ↦ w.max-is ∙ flag_clear greys flags 0 q w.if-flag-eq0-2.true
+      | else-flag-eq0-2 w ↦ w.max-is ∙ flag_set greys flags 0 q w.if-flag-eq0-2.false
+    ] in (
+      c.min-least.ensures ∙ least_more _ q c.loop-q.invariant.0 low,
+      c.max-greatest.ensures ∙ greatest_more _ q c.loop-q.invariant.1 high,
     )
-
-pub returns : goal.returns
-returns c =
-    let l = c.loop-q in
-    let e : l.q ≡ c.args.end = omega arith in
-    simp (c.wide.ensures, c.wide-2.ensures, l.invariant.1, l.invariant.2, e)

@@ -1,15 +1,11 @@
 -- The words of a displayed raster: the product of its width and its depth stays small.
+use Rattle.std.proofs.Common.{arith, sym}
 use Rattle.cells.proofs.RasterWords.{bits_most}
-use Rattle.registers.proofs.Words.{depth_most, raster_words_holds}
-use mathlib.Core.Path.{sym}
-use native.Mathlib.Omega.{arith}
+use Rattle.registers.proofs.Words.{raster_words_holds}
 use Rattle.marks.proofs.rasters.raster_words.Goals as goal
 
-pub overflow_cast-result-3 : goal.overflow_cast-result-3
-overflow_cast-result-3 c = omega (arith, depth_most c.requires.depth)
-
 pub overflow_mul-result : goal.overflow_mul-result
-overflow_mul-result c = omega (arith, bits_most _ c.requires)
+overflow_mul-result c = rw (c.from.ensures, c.from-2.ensures) (omega (arith, bits_most _ c.requires))
 
 pub returns : goal.returns
-returns c = sym (raster_words_holds _)
+returns c = rw (c.from.ensures, c.from-2.ensures) (sym (raster_words_holds _))

@@ -1,14 +1,10 @@
--- Display positions one after another: after each turn the sum, and the pixels flagged, are those of the positions up to p.
+-- Display positions one after another: after each turn the sum, and the pixels flagged, are those of the positions before p.
+use Rattle.std.proofs.Common.{◌≡◌, ◌≤◌, ◌-◌}
 use Rattle.marks.specs.inner.Seen.{Flagged}
 use Rattle.marks.specs.inner.Shown.{shown_total, seen_from}
-use mathlib.Core.Path.{◌≡◌}
-use Prim.Native.Nat.{◌≤◌, ◌-◌}
 use Rattle.marks.proofs.shown.shown_in.Given as goal
 
 abbrev pub invariant-loop-p : goal.invariant-loop-p
 invariant-loop-p l =
-    (l.from ≤ l.p) × (l.p ≤ l.to) × (l.sum ≡ shown_total l.s l.video l.cursor l.pixels l.y.0 l.from (l.p - l.from)) × (l.sum ≤ l.p - l.from)
+    (l.sum ≡ shown_total l.s l.video l.cursor l.pixels l.y.0 l.from (l.p - l.from)) × (l.sum ≤ l.p - l.from)
     × Flagged l.initial.flags l.flags (seen_from l.s l.video l.cursor l.y.0 l.from (l.p - l.from))
-
-abbrev pub decreases-loop-p : goal.decreases-loop-p
-decreases-loop-p l = l.to - l.p

@@ -1,64 +1,67 @@
--- Four sums, one for each word of four: together they are the sum over the words before k, and then over all.
-use Prim.Native.Nat.{◌-◌, ◌%◌}
-use mathlib.Core.Path.{◌≡◌, refl}
-use native.Mathlib.Omega.{arith}
-use lib.ListN.{length}
+-- Four words more are theirs in the four sums, and then a word more is its own in the first of them.
+use Rattle.std.proofs.Common.{arith, refl, ◌≡◌, ◌+◌, ◌*◌, ◌/◌, ◌∙◌, ap, length, get_or, get_or-drop}
 use Rattle.marks.specs.Count.{total}
-use Rattle.marks.proofs.Totals.{sums_more, parts_total}
+use Rattle.marks.specs.inner.Bright.{word_bright, word_bright_at}
+use Rattle.marks.proofs.Spanned.{words_most, fours_more}
+use Rattle.marks.proofs.Totals.{total_more}
 use Rattle.marks.proofs.walk.in_words.Goals as goal
 
-pub loop-k-init : goal.loop-k-init
+pub loop-w-init : goal.loop-w-init
 unfolding total
-loop-k-init c = (omega arith, refl, refl, omega arith)
+loop-w-init c = refl
 
 pub overflow_add-a : goal.overflow_add-a
-overflow_add-a c = omega (arith, c.loop-k.invariant.3, c.in_word-a.ensures.1, c.requires.1)
+overflow_add-a c =
+    omega (arith, c.loop-w.invariant, c.in_word-a.ensures.1, words_most c.args.bytes.now c.args.words.now (4 * c.loop-w.w-index) c.requires.0)
 
 pub overflow_add-b : goal.overflow_add-b
 overflow_add-b c =
-    let l = c.loop-k in
-    omega (arith, l.invariant.3, c.in_word-b.ensures.1, c.requires.1)
+    omega (arith, c.loop-w.invariant, c.in_word-b.ensures.1, words_most c.args.bytes.now c.args.words.now (4 * c.loop-w.w-index) c.requires.0)
 
 pub overflow_add-c : goal.overflow_add-c
 overflow_add-c c =
-    let l = c.loop-k in
-    omega (arith, l.invariant.3, c.in_word-c.ensures.1, c.requires.1)
+    omega (arith, c.loop-w.invariant, c.in_word-c.ensures.1, words_most c.args.bytes.now c.args.words.now (4 * c.loop-w.w-index) c.requires.0)
 
 pub overflow_add-d : goal.overflow_add-d
 overflow_add-d c =
-    let l = c.loop-k in
-    omega (arith, l.invariant.3, c.in_word-d.ensures.1, c.requires.1)
+    omega (arith, c.loop-w.invariant, c.in_word-d.ensures.1, words_most c.args.bytes.now c.args.words.now (4 * c.loop-w.w-index) c.requires.0)
 
-pub loop-k-preserved : goal.loop-k-preserved
-loop-k-preserved c =
-    let l = c.loop-k in
-    let in_word = c.in_word-a in
-    let in_word2 = c.in_word-b in (
-      omega arith,
-      omega arith,
-      sums_more l.a l.b l.c l.d _ l.k l.invariant.2 in_word.ensures.0 in_word2.ensures.0 c.in_word-c.ensures.0
-          c.in_word-d.ensures.0,
-      omega (arith, l.invariant.3, in_word.ensures.1, in_word2.ensures.1, c.in_word-c.ensures.1, c.in_word-d.ensures.1),
+pub loop-w-preserved : goal.loop-w-preserved
+loop-w-preserved c =
+    fours_more c.args.bytes.now c.args.words.now _ c.as_chunks.result.0.now c.loop-w.a c.loop-w.b c.loop-w.c c.loop-w.d c.loop-w.w-index
+    c.as_chunks.ensures.front (omega arith) c.loop-w.invariant c.in_word-a.ensures.0 c.in_word-b.ensures.0 c.in_word-c.ensures.0
+    c.in_word-d.ensures.0
+
+pub overflow_add-a-in-loop-word : goal.overflow_add-a-in-loop-word
+overflow_add-a-in-loop-word c =
+    omega (
+      arith,
+      c.loop-word.invariant,
+      c.in_word-a-in-loop-word.ensures.1,
+      words_most c.args.bytes.now c.args.words.now (4 * (length c.args.words.now / 4) + c.loop-word.word-index) c.requires.0,
     )
 
+pub loop-word-preserved : goal.loop-word-preserved
+loop-word-preserved c =
+    let n = length c.args.words.now / 4 in
+    let k = c.loop-word.word-index in
+    let f = word_bright_at c.args.bytes.now c.args.words.now in
+    let word : get_or c.as_chunks.result.1.now k 0 ≡ get_or c.args.words.now (4 * n + k) 0 =
+    ap (λ ws. get_or ws k 0) c.as_chunks.ensures.back ∙ get_or-drop (n * 4) c.args.words.now k 0
+    ∙ ap (λ i. get_or c.args.words.now i 0) (omega arith) in
+    let here : c.in_word-a-in-loop-word.result ≡ f (4 * n + k) =
+    c.in_word-a-in-loop-word.ensures.0 ∙ ap (word_bright c.args.bytes.now) word in
+    let next : 4 * n + (k + 1) ≡ 4 * n + k + 1 = omega arith in
+    omega (arith, c.loop-word.invariant, here, total_more f (4 * n + k), ap (total f) next)
+
 pub overflow_add-result : goal.overflow_add-result
-overflow_add-result c = omega (arith, c.loop-k.invariant.3, c.requires.1)
+overflow_add-result c =
+    omega (arith, c.loop-word.invariant, words_most c.args.bytes.now c.args.words.now (4 * (length c.args.words.now / 4) + c.loop-word.word-index) c.requires.0)
 
 pub overflow_add-result-2 : goal.overflow_add-result-2
-overflow_add-result-2 c = omega (arith, c.loop-k.invariant.3, c.requires.1)
+overflow_add-result-2 c =
+    omega (arith, c.loop-word.invariant, words_most c.args.bytes.now c.args.words.now (4 * (length c.args.words.now / 4) + c.loop-word.word-index) c.requires.0)
 
 pub overflow_add-result-3 : goal.overflow_add-result-3
-overflow_add-result-3 c = omega (arith, c.loop-k.invariant.3, c.requires.1)
-
-pub in_rest-requires : goal.in_rest-requires
-in_rest-requires c = (c.requires.0, c.requires.1, omega arith)
-
-pub overflow_add-result-4 : goal.overflow_add-result-4
-overflow_add-result-4 c = omega (arith, c.loop-k.invariant.3, c.in_rest.ensures.1, c.requires.1)
-
-pub returns : goal.returns
-returns c =
-    let l = c.loop-k in
-    let n = length c.args.words.now in
-    let e : l.k ≡ n - n % 4 = omega arith in
-    parts_total _ (n - n % 4) n (omega arith) (rw e at l.invariant.2) c.in_rest.ensures.0
+overflow_add-result-3 c =
+    omega (arith, c.loop-word.invariant, words_most c.args.bytes.now c.args.words.now (4 * (length c.args.words.now / 4) + c.loop-word.word-index) c.requires.0)
