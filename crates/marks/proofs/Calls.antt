@@ -7,52 +7,44 @@ use borrow.Author.Tests.{lt-ltb, le-ltb, lt-leb, le-leb}
 use lib.Dec.{ltb, leb}
 use lib.ListN.{length, set}
 use Rattle.buffers.specs.Painted.{painted}
-use Rattle.refusals.specs.Table.{Told, Why, why, given, refused, Row, row, judged, and_then}
+use Rattle.refusals.specs.Table.{Told, Why, why, given, refused, row, judged, and_then}
 use Rattle.registers.specs.Setting.{setting_of}
 use Rattle.registers.specs.declared.record.Registers.{Registers}
 use Rattle.registers.specs.declared.setting.Setting.{Setting}
-use Rattle.cells.specs.Picture.{picture_told}
-use Rattle.cells.proofs.Pictures.{picture_more, picture_setting}
+use Rattle.refusals.proofs.Tables.{and_then_judged}
+use Rattle.cells.specs.Picture.{picture_table, picture_told}
+use Rattle.cells.proofs.Pictures.{picture_setting}
 use Rattle.marks.specs.Summaries.{entries_length, entry_number, raster_of, summaries_told, summaries_leaves, replace_told, video_leaves, replace_leaves}
 use Rattle.marks.proofs.Told.{summaries_told_holds, replace_told_holds}
 
 module _ (g : Registers) (video cursor : List ℕ) (threshold : ℕ) (o : List ℕ) where
-  summaries_then : summaries_told g video cursor (length o)
-      ≡ and_then (picture_told g video cursor) (λ s. judged (row 13 (ltb (length o) (entries_length (setting_of g))) 0 ∷ []) tt)
+  -- First the picture, then 13.
+  pub summaries_then : summaries_told g video cursor (length o)
+      ≡ and_then (picture_told g video cursor) (λ s. judged (row 13 (ltb (length o) (entries_length s)) 0 ∷ []) tt)
+  unfolding picture_told
   summaries_then =
-      summaries_told_holds g video cursor (length o) ∙ picture_more g video cursor tt (row 13 (ltb (length o) (entries_length (setting_of g))) 0 ∷ [])
-
-  -- Told a refusal, the call leaves the numbers as they were.
-  pub summaries_untouched : (w : Why) → summaries_told g video cursor (length o) ≡ refused w
-      → (refused w ≡ summaries_told g video cursor (length o)) × (o ≡ summaries_leaves g video cursor threshold o)
-  unfolding summaries_leaves
-  summaries_untouched w t = (sym t, rw t)
-
-  pub summaries_refused : (w : Why) → picture_told g video cursor ≡ refused w
-      → (refused w ≡ summaries_told g video cursor (length o)) × (o ≡ summaries_leaves g video cursor threshold o)
-  summaries_refused w e = summaries_untouched w (rw (summaries_then, e))
+      summaries_told_holds g video cursor (length o)
+      ∙ sym (and_then_judged (setting_of g) (picture_table g video cursor) (λ s. row 13 (ltb (length o) (entries_length s)) 0 ∷ []) (λ s. tt))
 
   module _ (s : Setting) (e : picture_told g video cursor ≡ given s) where
-    pub summaries_short : length o < entries_length s
-        → (refused (why 13 0) ≡ summaries_told g video cursor (length o)) × (o ≡ summaries_leaves g video cursor threshold o)
-    summaries_short h =
-        summaries_untouched (why 13 0) (rw (summaries_then, e, ← picture_setting g video cursor s e, lt-ltb (length o) (entries_length s) h))
-
     pub summaries_given : entries_length s ≤ length o → summaries_told g video cursor (length o) ≡ given tt
-    summaries_given h = rw (summaries_then, e, ← picture_setting g video cursor s e, le-ltb (length o) (entries_length s) h)
+    summaries_given h = rw (summaries_then, e, le-ltb (length o) (entries_length s) h)
 
     pub summaries_put : (p : List ℕ) → entries_length s ≤ length o → p ≡ painted o 0 (entries_length s) (entry_number g s video cursor threshold)
-        → (given tt ≡ summaries_told g video cursor (length o)) × (p ≡ summaries_leaves g video cursor threshold o)
+        → p ≡ summaries_leaves g video cursor threshold o
     unfolding summaries_leaves
-    summaries_put p h q = (sym (summaries_given h), rw (summaries_given h, ← picture_setting g video cursor s e) q)
+    summaries_put p h q = rw (summaries_given h, ← picture_setting g video cursor s e) q
 
   module _ (index word : ℕ) where
-    rest : List Row
-    rest = row 18 (leb (length video) index) 0 ∷ row 13 (ltb (length o) (entries_length (setting_of g))) 0 ∷ []
-
-    replace_then : replace_told g video cursor index (length o) ≡ and_then (picture_told g video cursor) (λ s. judged rest tt)
-    unfolding rest
-    replace_then = replace_told_holds g video cursor index (length o) ∙ picture_more g video cursor tt rest
+    -- First the picture, then 18 and 13.
+    pub replace_then : replace_told g video cursor index (length o)
+        ≡ and_then (picture_told g video cursor)
+        (λ s. judged (row 18 (leb (length video) index) 0 ∷ row 13 (ltb (length o) (entries_length s)) 0 ∷ []) tt)
+    unfolding picture_told
+    replace_then =
+        replace_told_holds g video cursor index (length o)
+        ∙ sym (and_then_judged (setting_of g) (picture_table g video cursor)
+        (λ s. row 18 (leb (length video) index) 0 ∷ row 13 (ltb (length o) (entries_length s)) 0 ∷ []) (λ s. tt))
 
     -- What the call tells, and what it leaves of the list and of the numbers.
     abbrev pub Replaced : Told (Unit {0}) → List ℕ → List ℕ → Type 0
@@ -69,20 +61,17 @@ module _ (g : Registers) (video cursor : List ℕ) (threshold : ℕ) (o : List �
 
     module _ (s : Setting) (e : picture_told g video cursor ≡ given s) where
       pub replace_outside : length video ≤ index → Replaced (refused (why 18 0)) video o
-      unfolding rest
       replace_outside h = replace_untouched (why 18 0) (rw (replace_then, e, le-leb (length video) index h))
 
       module _ (here : index < length video) where
         pub replace_short : length o < entries_length s → Replaced (refused (why 13 0)) video o
-        unfolding rest
         replace_short h =
             replace_untouched (why 13 0)
-            (rw (replace_then, e, lt-leb (length video) index here, ← picture_setting g video cursor s e, lt-ltb (length o) (entries_length s) h))
+            (rw (replace_then, e, lt-leb (length video) index here, lt-ltb (length o) (entries_length s) h))
 
         pub replace_given : entries_length s ≤ length o → replace_told g video cursor index (length o) ≡ given tt
-        unfolding rest
         replace_given h =
-            rw (replace_then, e, lt-leb (length video) index here, ← picture_setting g video cursor s e, le-ltb (length o) (entries_length s) h)
+            rw (replace_then, e, lt-leb (length video) index here, le-ltb (length o) (entries_length s) h)
 
         pub replace_put : (p : List ℕ) → entries_length s ≤ length o
             → p ≡ painted o (3 * raster_of s index) (3 * raster_of s index + 3) (entry_number g s (set video index word) cursor threshold)

@@ -1,7 +1,6 @@
 -- The mark count for a threshold: the number of code 5 cells of the frame whose grey is at or above it.
 use Rattle.std.specs.Prelude.{ℕ, Bool, ◌&&◌, List, leb, eqb}
-use Rattle.refusals.specs.Table.{Told, given, judged}
-use Rattle.refusals.specs.Refusals.{refusal}
+use Rattle.refusals.specs.Table.{Told, judged}
 use Rattle.registers.specs.Setting.{setting_of}
 use Rattle.registers.specs.declared.record.Registers.{Registers}
 use Rattle.registers.specs.declared.setting.Setting.{Setting}
@@ -10,8 +9,6 @@ use Rattle.colours.specs.Cells.{cell_code, cell_colour}
 use Rattle.cells.specs.Picture.{picture_table}
 use Rattle.frame.specs.Frame.{cells, frame_cell}
 use Rattle.marks.specs.Count.{count_below}
-use Rattle.marks.specs.declared.answer.Marks.{Marks}
-use Rattle.marks.specs.declared.answer.Marks.TheVariants.{Count, Refused}
 
 -- A cell of code 5 whose grey is not below the threshold.
 abbrev pub is_mark : ℕ → ℕ → Bool
@@ -27,8 +24,3 @@ marks_of g s video cursor threshold = count_below (mark_at g s video cursor thre
 -- Refusals: the picture's.
 unfoldable pub marks_told : Registers → List ℕ → List ℕ → ℕ → Told ℕ
 marks_told g video cursor threshold = judged (picture_table g video cursor) (marks_of g (setting_of g) video cursor threshold)
-
--- What an answer tells.
-abbrev pub marks_says : Marks → Told ℕ
-marks_says (Count n) = given n
-marks_says (Refused why) = refusal why

@@ -1,7 +1,6 @@
 // Marks, without a frame: bright display cells counted over the frame, and per raster, with the least and the greatest grey.
 #![tactic(auto)]
 
-pub mod answer;
 mod count;
 mod cover;
 mod entries;
@@ -18,20 +17,19 @@ mod tables;
 mod walk;
 
 ghost use Rattle.std.specs.Prelude.{◌≡◌};
-ghost use Rattle.marks.specs.Marks.{marks_told, marks_says};
+ghost use Rattle.refusals.specs.Refusals.{says};
+ghost use Rattle.marks.specs.Marks.{marks_told};
 
-use crate::answer::Marks;
 use crate::count::count;
 use cells::judge;
-use registers::check::Checked;
+use refusals::Refusal;
 use registers::record::Registers;
 
 // How many code 5 cells of the frame have a grey at or above the threshold.
-pub fn marks(g: Registers, video: &[u32], cursor: &[u32], threshold: u8) -> Marks
-    ensures { marks_says result ≡ marks_told g video.now cursor.now threshold }
+#[tactic(auto, using(refusals::proofs::Told::handed_on, crate::proofs::Answers::marks_then))]
+pub fn marks(g: Registers, video: &[u32], cursor: &[u32], threshold: u8) -> Result<u32, Refusal>
+    ensures { says result ≡ marks_told g video.now cursor.now threshold }
 {
-    match judge(g, video, cursor) {
-        Checked::Refused(why) => Marks::Refused(why),
-        Checked::Accepted(s) => Marks::Count(count(g, s, video, cursor, threshold)),
-    }
+    let s = judge(g, video, cursor)?;
+    Ok(count(g, s, video, cursor, threshold))
 }

@@ -1,14 +1,12 @@
--- The picture judged: its refusal is the count's, and a given one is counted.
-use Rattle.marks.proofs.Answers.{marks_refused, marks_given, given_known}
+-- A picture that is given is counted.
+use Rattle.std.proofs.Common.{sym, ◌∙◌, ap}
+use Rattle.refusals.specs.Table.{given}
+use Rattle.cells.proofs.Pictures.{given_picture}
+use Rattle.marks.proofs.Answers.{marks_counted}
 use Rattle.marks.proofs.marks.Goals as goal
 
 pub count-requires : goal.count-requires
-count-requires c =
-    given_known c.args.g _ _ c.args.threshold _ c.judge.ensures c.in-Accepted.is
+count-requires c = given_picture c.args.g _ _ _ (sym c.in_ok-s.ensures)
 
-pub returns-in-Refused : goal.returns-in-Refused
-returns-in-Refused c = marks_refused _ _ _ _ _ c.judge.ensures c.in-Refused.is
-
-pub returns-in-Accepted : goal.returns-in-Accepted
-returns-in-Accepted c =
-    marks_given _ _ _ _ _ c.judge.ensures c.in-Accepted.is c.count.ensures
+pub returns : goal.returns
+returns c = ap given c.count.ensures ∙ sym (marks_counted c.args.g _ _ _ _ (sym c.in_ok-s.ensures))
