@@ -87,8 +87,8 @@ impl Registers {
 
     // The accepted setting, or the first refusal of 3 to 6, 19, 7 to 9.
     #[tactic(auto, using(refusals::proofs::Told::handed_on, crate::proofs::First::slots), unfolding(crate::specs::Check::check_told))]
-    pub(crate) fn check(self) -> Result<Setting, Refusal>
-        ensures { says result ≡ check_told self }
+    pub(crate) fn check(&self) -> Result<Setting, Refusal>
+        ensures { says result ≡ check_told self.now }
     {
         if let Some(slot) = self.lowest_missing() {
             return Err(Refusal::Unwritten(4 * slot as u32));

@@ -2,7 +2,6 @@
 ghost use Rattle.std.specs.Prelude.{◌≡◌};
 ghost use Rattle.registers.specs.Control.{
   control,
-  depth_choice,
   depth_of,
   display_offset,
   entries_in_use,
@@ -13,16 +12,41 @@ ghost use Rattle.registers.specs.Control.{
 
 use crate::record::Registers;
 
+// What a depth stands for: bits for each pixel, the display's offset, palette entries in use.
+#[derive(Clone, Copy)]
+struct Depth {
+    bits: u8,
+    offset: u8,
+    entries: u8,
+}
+
 impl Registers {
     // In MHz, by control bits 1-0.
     const PIXEL_RATES: [u8; 4] = [8, 12, 16, 24];
 
-    // By the depth's choice 0 to 3: bits for each pixel, the display's offset, palette entries in use.
-    const DEPTHS: [u8; 4] = [1, 2, 4, 8];
-
-    const DISPLAY_OFFSETS: [u8; 4] = [19, 11, 7, 5];
-
-    const ENTRIES: [u8; 4] = [2, 4, 16, 16];
+    // By control bits 3-2.
+    const DEPTHS: [Depth; 4] = [
+        Depth {
+            bits: 1,
+            offset: 19,
+            entries: 2,
+        },
+        Depth {
+            bits: 2,
+            offset: 11,
+            entries: 4,
+        },
+        Depth {
+            bits: 4,
+            offset: 7,
+            entries: 16,
+        },
+        Depth {
+            bits: 8,
+            offset: 5,
+            entries: 16,
+        },
+    ];
 
     // The control register's data.
     pub fn control(self) -> u32
@@ -39,32 +63,31 @@ impl Registers {
         Self::PIXEL_RATES[choice]
     }
 
-    fn depth_choice(self) -> usize
-        ensures { result ≡ depth_choice self }
+    fn depth_chosen(self) -> Depth
+        ensures bits { result.bits ≡ depth_of self }
+        ensures offset { result.offset ≡ display_offset self }
+        ensures entries { result.entries ≡ entries_in_use self }
     {
-        (self.control() / 4 % 4) as usize
+        Self::DEPTHS[(self.control() / 4 % 4) as usize]
     }
 
     pub(crate) fn depth(self) -> u8
         ensures { result ≡ depth_of self }
     {
-        let choice = self.depth_choice();
-        Self::DEPTHS[choice]
+        self.depth_chosen().bits
     }
 
     pub(crate) fn display_offset(self) -> u8
         ensures { result ≡ display_offset self }
     {
-        let choice = self.depth_choice();
-        Self::DISPLAY_OFFSETS[choice]
+        self.depth_chosen().offset
     }
 
     // How many palette entries are in use.
     pub fn entries_in_use(self) -> u8
         ensures { result ≡ entries_in_use self }
     {
-        let choice = self.depth_choice();
-        Self::ENTRIES[choice]
+        self.depth_chosen().entries
     }
 
     pub(crate) fn is_test_mode(self) -> bool

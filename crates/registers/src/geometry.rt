@@ -7,7 +7,7 @@ use crate::record::Registers;
 use crate::units::{Pairs, Pixels, Rasters};
 
 impl Registers {
-    // A register's data, modulo 2^24.
+    // A register's data, modulo 2^24. The public constants are plain numbers: a type for addresses would be put around each of them at each call.
     pub(crate) fn value(self, address: usize) -> u32
         requires { address < 256 }
         ensures { result ≡ value_at self address }

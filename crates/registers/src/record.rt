@@ -6,7 +6,8 @@ ghost use Rattle.registers.specs.Record.{registers_by, fresh, stored_of, word_to
 
 use refusals::{Refusal, refuse_if};
 
-#[derive(Clone, Copy)]
+// Two arrays and not one of `Option<u32>`: what an unwritten slot holds is read too (specs/Record:held_in), and C lends the two.
+#[derive(Clone, Copy, PartialEq, Eq)]
 pub struct Registers {
     pub values: [u32; 64],
     pub written: [bool; 64],

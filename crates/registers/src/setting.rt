@@ -24,6 +24,7 @@ pub struct Setting {
     pub vce: Rasters,
     // bits for each pixel: 1, 2, 4 or 8
     pub depth: u8,
+    // beside the cursor's rasters, which C is told with the cursor off too
     pub cursor: bool,
 }
 
