@@ -12,7 +12,12 @@ impl Registers {
         requires { (first ≤ last) × (last < 256) }
         ensures { result ≡ lowest_slot (unwritten_among self.now.written first last) }
     {
-        (first / 4..last / 4 + 1).find(|slot| !self.written[*slot])
+        for slot in first / 4..last / 4 + 1 {
+            if !self.written[slot] {
+                return Some(slot);
+            }
+        }
+        None
     }
 
     // The lowest slot that is needed and unwritten. If control is unwritten, only it is reported.
