@@ -4,10 +4,9 @@ use mathlib.Core.Path.{◌≡◌, refl, sym, ◌∙◌}
 use mathlib.Core.List.{List}
 use native.Mathlib.Nat.{div-one, mod-one, mul-one, add-zero, mod-lt}
 use native.Mathlib.Omega.{arith}
-use lib.ListN.{length, get_or, set, take, drop}
-use Rattle.buffers.specs.Painted.{painted}
+use lib.ListN.{get_or, take, drop}
+use Rattle.std.specs.Int.{w32, to_le_bytes}
 use Rattle.buffers.specs.Words.{byte_of}
-use Rattle.buffers.proofs.Paints.{paint_none, paint_more, paints_painted}
 use Rattle.cells.proofs.PixelPlaces.{past_bytes, past_pixels, byte_part}
 use Rattle.frame.specs.inner.Ink.{quad_cell, word_ink, words_ink}
 use Rattle.frame.specs.inner.Quads.{Cells, Joined, Quads, Four}
@@ -52,19 +51,20 @@ module _ (quads : List ℕ) (joined : Joined quads) (w : ℕ) where
   at_place j b h e = rw e (joined.moved j (w / 2 ^ (8 * j) % 256) h (mod-lt _ (omega arith)))
 
   -- The cell of each byte at its place, and that it is small.
-  pub record Added : Type 0 where
-    pub lowest : get_or quads (w % 256) 0 ≡ cell_of 0
-    pub place_1 : get_or quads (256 + w / 2 ^ 8 % 256) 0 ≡ cell_of 1 * 65536
-    pub place_2 : get_or quads (512 + w / 2 ^ 16 % 256) 0 ≡ cell_of 2 * 4294967296
-    pub place_3 : get_or quads (768 + w / 2 ^ 24 % 256) 0 ≡ cell_of 3 * 281474976710656
+  pub record Added (bytes : List ℕ) : Type 0 where
+    pub lowest : get_or quads (get_or bytes 0 0) 0 ≡ cell_of 0
+    pub place_1 : get_or quads (256 + get_or bytes 1 0) 0 ≡ cell_of 1 * 65536
+    pub place_2 : get_or quads (512 + get_or bytes 2 0) 0 ≡ cell_of 2 * 4294967296
+    pub place_3 : get_or quads (768 + get_or bytes 3 0) 0 ≡ cell_of 3 * 281474976710656
     pub small_0 : cell_of 0 < 65536
     pub small_1 : cell_of 1 < 65536
     pub small_2 : cell_of 2 < 65536
     pub small_3 : cell_of 3 < 65536
 
-  pub four_added : Added
-  four_added =
-      record {
+  pub four_added : (bytes : List ℕ) → bytes ≡ to_le_bytes w32 w → Added bytes
+  four_added bytes is =
+      rw is
+      (record {
         lowest = let e : 2 ^ (8 * 0) ≡ 1 = refl in rw (e, div-one w);
         place_1 = at_place 1 (w / 2 ^ 8 % 256) (omega arith) refl;
         place_2 = at_place 2 (w / 2 ^ 16 % 256) (omega arith) refl;
@@ -73,7 +73,7 @@ module _ (quads : List ℕ) (joined : Joined quads) (w : ℕ) where
         small_1 = cell_small 1;
         small_2 = cell_small 2;
         small_3 = cell_small 3;
-      }
+      })
 
   -- What holds of any four numbers of 16 bits holds of the four cells.
   four : {P : ℕ → ℕ → ℕ → ℕ → Type 0} → ((a b c d : ℕ) → a < 65536 → b < 65536 → c < 65536 → d < 65536 → P a b c d)
@@ -114,24 +114,6 @@ quads_right table quads cells placed =
         let k : 256 * 0 + b ≡ b = omega arith in
         let e : get_or table b 0 * 2 ^ (16 * 0) ≡ get_or table b 0 = mul-one (get_or table b 0) in
         rw (k, e) at (placed 0 b (omega arith) l)
-
--- Four stores one after the other.
-place : (x j : ℕ) → x / 2 ^ (16 * j) % 65536 ≡ quad_cell x j
-unfolding quad_cell
-place x j = refl
-
-place_0 : (x : ℕ) → x % 65536 ≡ quad_cell x 0
-unfolding quad_cell
-place_0 x = let e : 2 ^ (16 * 0) ≡ 1 = refl in rw (e, div-one x)
-
-pub quad_put : (x : ℕ) (o : List ℕ) → length o ≡ 4
-    → set (set (set (set o 0 (x % 65536)) 1 (x / 2 ^ 16 % 65536)) 2 (x / 2 ^ 32 % 65536)) 3 (x / 2 ^ 48 % 65536) ≡ painted o 0 4 (quad_cell x)
-quad_put x o room =
-    paints_painted {d = 0} {f = quad_cell x} (omega arith)
-    (paint_more {d = 0} {f = quad_cell x} (x / 2 ^ 48 % 65536) (omega arith) (omega arith) (place x 3)
-    (paint_more {d = 0} {f = quad_cell x} (x / 2 ^ 32 % 65536) (omega arith) (omega arith) (place x 2)
-    (paint_more {d = 0} {f = quad_cell x} (x / 2 ^ 16 % 65536) (omega arith) (omega arith) (place x 1)
-    (paint_more {d = 0} {f = quad_cell x} (x % 65536) (omega arith) (omega arith) (place_0 x) (paint_none 0 (quad_cell x))))))
 
 -- The cells of word q of a list.
 pub quad_same : (quads ws : List ℕ) (q x j : ℕ) → Four quads (get_or ws q 0) x → j < 4 → quad_cell x j ≡ words_ink quads ws 1 (4 * q + j)

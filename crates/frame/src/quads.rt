@@ -33,22 +33,22 @@ fn quad(quads: &[u64; 1024], w: u32) -> u64
     requires { Joined quads.now }
     ensures { Four quads.now w result }
 {
-    let a = quads[(w % 256) as usize];
-    let b = quads[256 + (w >> 8) as usize % 256];
-    let c = quads[512 + (w >> 16) as usize % 256];
-    let d = quads[768 + (w >> 24) as usize % 256];
-    a + b + c + d
+    let [a, b, c, d] = w.to_le_bytes();
+    quads[usize::from(a)]
+        + quads[256 + usize::from(b)]
+        + quads[512 + usize::from(c)]
+        + quads[768 + usize::from(d)]
 }
 
 // They are stored one after another: the machine stores all 64 bits at once.
+#[tactic(auto, unfolding(crate::specs::inner::Ink::quad_cell))]
 fn put_quad(out: &mut [u16], x: u64)
     requires { length out.old ≡ 4 }
     ensures { out.new ≡ painted out.old 0 4 (quad_cell x) }
 {
-    out[0] = (x % 0x1_0000) as u16;
-    out[1] = ((x >> 16) % 0x1_0000) as u16;
-    out[2] = ((x >> 32) % 0x1_0000) as u16;
-    out[3] = ((x >> 48) % 0x1_0000) as u16;
+    for (j, cell) in out.iter_mut().enumerate() {
+        *cell = ((x >> (16 * j)) % 0x1_0000) as u16;
+    }
 }
 
 // All words of a list, one a turn.

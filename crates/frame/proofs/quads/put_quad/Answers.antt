@@ -1,6 +1,9 @@
--- Four stores, one after another: each is its 16 bits of the sum.
-use Rattle.frame.proofs.QuadCells.{quad_put}
+-- Cell after cell: the four are all of the stretch.
+use Rattle.std.proofs.Common.{◌≡◌, arith}
+use Rattle.buffers.proofs.Paints.{paints_painted}
 use Rattle.frame.proofs.quads.put_quad.Goals as goal
 
 pub returns : goal.returns
-returns c = quad_put c.args.x c.args.out.now c.requires
+returns c =
+    let e : c.loop-j.j ≡ 4 = omega arith in
+    paints_painted {d = 0} (omega arith) (rw e at c.loop-j.invariant)
