@@ -7,18 +7,14 @@ use std::fmt;
 
 // A place in the frame by its name in the paper, in pixels or in rasters.
 #[derive(Clone, Copy)]
-enum Place<'a> {
-    Across(&'a str, Pixels),
-    Down(&'a str, Rasters),
+struct Place(&'static str, Count<'static>);
+
+fn across(name: &'static str, x: Pixels) -> Place {
+    Place(name, Count(usize::from(x.0), "pixel"))
 }
 
-impl fmt::Display for Place<'_> {
-    fn fmt<W: fmt::Write>(&self, f: &mut fmt::Formatter<W>) -> fmt::Result {
-        match *self {
-            Place::Across(name, x) => write!(f, "{name} = {}", Count(usize::from(x.0), "pixel")),
-            Place::Down(name, y) => write!(f, "{name} = {}", Count(usize::from(y.0), "raster")),
-        }
-    }
+fn down(name: &'static str, y: Rasters) -> Place {
+    Place(name, Count(usize::from(y.0), "raster"))
 }
 
 // What the register at an address gives.
@@ -30,46 +26,41 @@ pub struct Meaning<'a> {
 
 impl Meaning<'_> {
     // What a timing register places, but for HIR.
-    fn place(&self) -> Place<'static> {
+    fn place(&self) -> Place {
         let s = self.registers.setting();
         match self.address {
-            Registers::HCR => Place::Across("N", s.n),
-            Registers::HSWR => Place::Across("HS", s.hs),
-            Registers::HBSR => Place::Across("BS", s.bs),
-            Registers::HDSR => Place::Across("DS", s.ds),
-            Registers::HDER => Place::Across("DE", s.de),
-            Registers::HBER => Place::Across("BE", s.be),
-            Registers::HCSR => Place::Across("CX", s.cx),
-            Registers::VCR => Place::Down("V", s.v),
-            Registers::VSWR => Place::Down("VS", s.vs),
-            Registers::VBSR => Place::Down("VBS", s.vbs),
-            Registers::VDSR => Place::Down("VDS", s.vds),
-            Registers::VDER => Place::Down("VDE", s.vde),
-            Registers::VBER => Place::Down("VBE", s.vbe),
-            Registers::VCSR => Place::Down("VCS", s.vcs),
-            _ => Place::Down("VCE", s.vce),
+            Registers::HCR => across("N", s.n),
+            Registers::HSWR => across("HS", s.hs),
+            Registers::HBSR => across("BS", s.bs),
+            Registers::HDSR => across("DS", s.ds),
+            Registers::HDER => across("DE", s.de),
+            Registers::HBER => across("BE", s.be),
+            Registers::HCSR => across("CX", s.cx),
+            Registers::VCR => down("V", s.v),
+            Registers::VSWR => down("VS", s.vs),
+            Registers::VBSR => down("VBS", s.vbs),
+            Registers::VDSR => down("VDS", s.vds),
+            Registers::VDER => down("VDE", s.vde),
+            Registers::VBER => down("VBE", s.vbe),
+            Registers::VCSR => down("VCS", s.vcs),
+            _ => down("VCE", s.vce),
         }
     }
 
     // A timing register, HCR to VCER.
     fn timing<W: fmt::Write>(&self, f: &mut fmt::Formatter<W>) -> fmt::Result {
-        let g = self.registers;
-        let has_depth = g.written[Registers::CONTROL / 4];
+        let has_depth = self.registers.written[Registers::CONTROL / 4];
+        let sub_position = self.registers.sub_position();
+        let Place(name, count) = self.place();
         match self.address {
-            Registers::HDSR if !has_depth => f.write_str(
-                "DS needs the depth, and control is never written",
-            ),
-            Registers::HDER if !has_depth => f.write_str(
-                "DE needs the depth, and control is never written",
-            ),
-            Registers::HCSR if g.sub_position() != 0 => write!(
-                f,
-                "{}, sub-position {}",
-                self.place(),
-                g.sub_position()
-            ),
+            Registers::HDSR | Registers::HDER if !has_depth => {
+                write!(f, "{name} needs the depth, and control is never written")
+            }
+            Registers::HCSR if sub_position != 0 => {
+                write!(f, "{name} = {count}, sub-position {sub_position}")
+            }
             Registers::HIR => f.write_str("used with interlace only"),
-            _ => write!(f, "{}", self.place()),
+            _ => write!(f, "{name} = {count}"),
         }
     }
 }

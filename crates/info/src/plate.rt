@@ -3,9 +3,7 @@ use crate::summary::print_setting;
 use crate::terms::Count;
 use crate::verdicts::Verdict;
 use crate::words::print_words;
-use marks::answer::Marks;
-use refusals::{Answer, Refusal};
-use registers::check::Checked;
+use refusals::Refusal;
 use registers::record::Registers;
 use sheets::sheet::Sheet;
 use std::io;
@@ -27,38 +25,26 @@ fn print_verdict(
     println!(rt; "{verdict}")
 }
 
-// The mark count of a picture whose setting is accepted, and its verdict.
-fn print_counted(rt: &impl Print, g: Registers, sheet: Sheet<'_>) -> io::Result<()> {
-    match marks::marks(g, sheet.video, sheet.cursor, THRESHOLD) {
-        Marks::Count(count) => {
-            println!(rt; "marks: {count} at threshold {THRESHOLD}")?;
-            print_verdict(rt, "picture", Ok(()), sheet.registers)
-        }
-        Marks::Refused(why) => print_verdict(rt, "picture", Err(why), sheet.registers),
-    }
-}
-
-// The register words loaded and checked: the setting and what becomes of the picture, or the verdict alone.
+// The register words loaded and checked: the setting and the mark count, as far as the picture has them, and its verdict.
 fn print_picture(rt: &impl Print, sheet: Sheet<'_>) -> io::Result<()> {
-    let verdict = Registers::new().load_and_check(sheet.registers);
-    let g = verdict.registers;
-    match verdict.checked {
-        Checked::Refused(why) => print_verdict(rt, "picture", Err(why), sheet.registers),
-        Checked::Accepted(s) => {
+    let mut g = Registers::new();
+    let counted = match g.load_and_check(sheet.registers) {
+        Ok(s) => {
             print_setting(rt, &g, s, sheet)?;
-            print_counted(rt, g, sheet)
+            marks::marks(g, sheet.video, sheet.cursor, THRESHOLD)
         }
+        Err(why) => Err(why),
+    };
+    if let Ok(count) = counted {
+        println!(rt; "marks: {count} at threshold {THRESHOLD}")?;
     }
+    print_verdict(rt, "picture", counted.map(|_| ()), sheet.registers)
 }
 
 fn print_sound(rt: &impl Print, sheet: Sheet<'_>) -> io::Result<()> {
-    match Registers::new()
-        .load_and_check_sound(sheet.registers)
-        .answer
-    {
-        Answer::Refused(why) => print_verdict(rt, "sound", Err(why), sheet.registers),
-        Answer::Done => print_verdict(rt, "sound", Ok(()), sheet.registers),
-    }
+    let mut g = Registers::new();
+    let answer = g.load_and_check_sound(sheet.registers);
+    print_verdict(rt, "sound", answer, sheet.registers)
 }
 
 // A plate file: its length, how many words each section has, and what is in them.

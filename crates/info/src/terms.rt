@@ -1,7 +1,6 @@
 // Values in words: counts, colours, the depth, sixths, the sound's rate, the control bits.
 use colours::apart::Apart;
 use registers::record::Registers;
-use sound::Pairing;
 use std::fmt;
 
 // A sound byte of amplitude 1: its two values are the sixths themselves.
@@ -44,8 +43,8 @@ pub struct Stereo(pub u8);
 impl fmt::Display for Stereo {
     fn fmt<W: fmt::Write>(&self, f: &mut fmt::Formatter<W>) -> fmt::Result {
         match sound::pair(LEAST_SOUND, self.0) {
-            Pairing::Refused(_) => f.write_str("0, which sound refuses"),
-            Pairing::Given(sides) => write!(f, "left {}/6, right {}/6", sides.left, sides.right),
+            Err(_) => f.write_str("0, which sound refuses"),
+            Ok(sides) => write!(f, "left {}/6, right {}/6", sides.left, sides.right),
         }
     }
 }

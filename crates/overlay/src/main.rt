@@ -6,7 +6,7 @@ mod camera;
 
 use camera::{Camera, Fault};
 use cells::judge;
-use registers::check::Checked;
+use refusals::Refusal;
 use registers::record::Registers;
 use registers::units::Rasters;
 use sheets::sheet::Sheet;
@@ -26,6 +26,12 @@ enum Stop {
 impl From<Failure> for Stop {
     fn from(failure: Failure) -> Stop {
         Stop::Plate(failure)
+    }
+}
+
+impl From<Refusal> for Stop {
+    fn from(why: Refusal) -> Stop {
+        Stop::Plate(Failure::Refused(why))
     }
 }
 
@@ -65,9 +71,9 @@ fn show_raster(
     let mut colours = [0; 2048];
     camera.raster(&mut colours)?;
     let mut cells = [0; 2048];
-    frame::raster(g, sheet.video, sheet.cursor, Rasters(y), &mut cells);
+    frame::raster(g, sheet.video, sheet.cursor, Rasters(y), &mut cells)?;
     let mut mixed = [0; 2048];
-    mixing::mix(g, &cells, &colours, &mut mixed);
+    mixing::mix(g, &cells, &colours, &mut mixed)?;
     write_colours(rt, &mixed[..usize::from(camera.n)])?;
     Ok(())
 }
@@ -92,21 +98,18 @@ fn show_judged(
     g: Registers,
     sheet: Sheet<'_>,
 ) -> Result<(), Stop> {
-    match judge(g, sheet.video, sheet.cursor) {
-        Checked::Refused(why) => Err(Stop::Plate(Failure::Refused(why))),
-        Checked::Accepted(s) => show_over(rt, g, sheet, Camera::of(rt, s.n.0, s.v.0)?),
-    }
+    let s = judge(g, sheet.video, sheet.cursor)?;
+    let camera = Camera::of(rt, s.n.0, s.v.0)?;
+    show_over(rt, g, sheet, camera)
 }
 
 // The register words are loaded and checked first.
 fn show_input(rt: &(impl io::Input + Files<File = File> + Env + Print)) -> Result<(), Stop> {
     let mut room = Room::default();
     let sheet = room.sheet(rt)?;
-    let verdict = Registers::new().load_and_check(sheet.registers);
-    match verdict.checked {
-        Checked::Refused(why) => Err(Stop::Plate(Failure::Refused(why))),
-        Checked::Accepted(_) => show_judged(rt, verdict.registers, sheet),
-    }
+    let mut g = Registers::new();
+    g.load_and_check(sheet.registers)?;
+    show_judged(rt, g, sheet)
 }
 
 fn main(rt: HostRuntime) {

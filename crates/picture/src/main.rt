@@ -2,7 +2,6 @@
 #![tactic(auto)]
 
 use cells::judge;
-use registers::check::Checked;
 use registers::record::Registers;
 use standard_plate::{Failure, Room};
 use std::io;
@@ -24,14 +23,10 @@ fn show(rt: &impl Print, g: Registers, video: &[u32], cursor: &[u32]) -> io::Res
 fn show_input(rt: &(impl io::Input + Print)) -> Result<(), Failure> {
     let mut room = Room::default();
     let sheet = room.sheet(rt)?;
-    let verdict = Registers::new().load_and_check(sheet.registers);
-    if let Checked::Refused(why) = verdict.checked {
-        return Err(Failure::Refused(why));
-    }
-    if let Checked::Refused(why) = judge(verdict.registers, sheet.video, sheet.cursor) {
-        return Err(Failure::Refused(why));
-    }
-    show(rt, verdict.registers, sheet.video, sheet.cursor)?;
+    let mut g = Registers::new();
+    g.load_and_check(sheet.registers)?;
+    judge(g, sheet.video, sheet.cursor)?;
+    show(rt, g, sheet.video, sheet.cursor)?;
     Ok(())
 }
 

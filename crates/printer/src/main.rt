@@ -1,7 +1,6 @@
 // The run printer: a plate on standard input, its text on standard output. All that matters is proved in `sheets` and `outputs`.
 #![tactic(auto)]
 
-use registers::check::Checked;
 use registers::record::Registers;
 use standard_plate::{Failure, Room};
 use std::io;
@@ -23,11 +22,9 @@ fn print(rt: &impl Print, g: Registers, video: &[u32], cursor: &[u32]) -> io::Re
 fn print_input(rt: &(impl io::Input + Print)) -> Result<(), Failure> {
     let mut room = Room::default();
     let sheet = room.sheet(rt)?;
-    let verdict = Registers::new().load_and_check(sheet.registers);
-    if let Checked::Refused(why) = verdict.checked {
-        return Err(Failure::Refused(why));
-    }
-    print(rt, verdict.registers, sheet.video, sheet.cursor)?;
+    let mut g = Registers::new();
+    g.load_and_check(sheet.registers)?;
+    print(rt, g, sheet.video, sheet.cursor)?;
     Ok(())
 }
 

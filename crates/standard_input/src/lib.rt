@@ -21,6 +21,7 @@ pub fn read(rt: &impl io::Input, bytes: &mut [u8]) -> Result<usize, Broken>
 {
     let mut input = rt.reader();
     let mut count = 0;
+    // each read gives as many bytes as it likes, so that no `for` goes over them
     while count < bytes.len() {
         match input.read(&mut bytes[count..]) {
             Ok(0) => break,

@@ -1,6 +1,9 @@
 // A plate on standard input, as most programs take it: room for it, its lists, and what ends a program before its end.
 #![tactic(auto)]
 
+ghost use Rattle.std.specs.Prelude.{ℕ, List, IfOk};
+ghost use Rattle.sheets.specs.Lists.{Lists};
+
 use refusals::Refusal;
 use sheets::sheet::Sheet;
 use standard_input::Broken;
@@ -26,8 +29,10 @@ impl Default for Room {
 }
 
 impl Room {
-    // The plate on standard input, taken apart.
-    pub fn sheet(&mut self, rt: &impl io::Input) -> Result<Sheet<'_>, Failure> {
+    // The plate on standard input, taken apart: the lists are those of some file.
+    pub fn sheet(&mut self, rt: &impl io::Input) -> Result<Sheet<'_>, Failure>
+        ensures { IfOk result (λ sheet. (file : List ℕ) × Lists file sheet) }
+    {
         let count = standard_input::read(rt, &mut self.plate)?;
         let sheet = Sheet::of_input(&self.plate[..count], &mut self.words)?;
         Ok(sheet)
@@ -60,17 +65,19 @@ impl From<io::Error> for Failure {
     }
 }
 
+// The one line that says why a plate is refused.
+fn line(why: Refusal, text: &mut [u8; 64]) -> &[u8] {
+    let n = outputs::text::refused(why, text);
+    &text[..n]
+}
+
 impl Failure {
     // One line on standard error: what failed, or why the plate is refused.
     pub fn tell(self, rt: &impl Eprint) {
         match self {
             Failure::Input(error) => standard_error::fail(rt, "standard input", error),
             Failure::Output(error) => standard_error::fail(rt, "standard output", error),
-            Failure::Refused(why) => {
-                let mut text = [0; 64];
-                let n = outputs::text::refused(why, &mut text);
-                standard_error::say(rt, &text[..n]);
-            }
+            Failure::Refused(why) => standard_error::say(rt, line(why, &mut [0; 64])),
         }
     }
 
@@ -78,9 +85,7 @@ impl Failure {
     pub fn print(self, rt: &(impl Print + Eprint)) {
         match self {
             Failure::Refused(why) => {
-                let mut text = [0; 64];
-                let n = outputs::text::refused(why, &mut text);
-                if let Err(error) = rt.write_all(&text[..n]) {
+                if let Err(error) = rt.write_all(line(why, &mut [0; 64])) {
                     Failure::Output(error).tell(rt);
                 }
             }

@@ -6,8 +6,6 @@ mod said;
 mod threshold;
 
 use marks::summaries::summaries;
-use refusals::Answer;
-use registers::check::Checked;
 use registers::record::Registers;
 use said::say_entries;
 use standard_plate::{Failure, Room};
@@ -18,22 +16,11 @@ use threshold::asked;
 fn tally(rt: &(impl io::Input + Print + Eprint), threshold: u8) -> Result<(), Failure> {
     let mut room = Room::default();
     let sheet = room.sheet(rt)?;
-    let verdict = Registers::new().load_and_check(sheet.registers);
-    let s = match verdict.checked {
-        Checked::Accepted(s) => s,
-        Checked::Refused(why) => return Err(Failure::Refused(why)),
-    };
+    let mut g = Registers::new();
+    let s = g.load_and_check(sheet.registers)?;
     let mut numbers = [0; 3072];
-    match summaries(
-        verdict.registers,
-        sheet.video,
-        sheet.cursor,
-        threshold,
-        &mut numbers,
-    ) {
-        Answer::Refused(why) => Err(Failure::Refused(why)),
-        Answer::Done => say_entries(rt, s, &numbers),
-    }
+    summaries(g, sheet.video, sheet.cursor, threshold, &mut numbers)?;
+    say_entries(rt, s, &numbers)
 }
 
 fn main(rt: HostRuntime) {

@@ -1,7 +1,6 @@
 // A plate on standard input, its sound on standard output as a WAV file. All that matters is proved in `sheets` and `outputs`.
 #![tactic(auto)]
 
-use refusals::Answer;
 use registers::record::Registers;
 use standard_plate::{Failure, Room};
 use std::io;
@@ -23,11 +22,9 @@ fn play(rt: &impl Print, g: Registers, sound: &[u32]) -> io::Result<()> {
 fn play_input(rt: &(impl io::Input + Print)) -> Result<(), Failure> {
     let mut room = Room::default();
     let sheet = room.sheet(rt)?;
-    let loaded = Registers::new().load_and_check_sound(sheet.registers);
-    if let Answer::Refused(why) = loaded.answer {
-        return Err(Failure::Refused(why));
-    }
-    play(rt, loaded.registers, sheet.sound)?;
+    let mut g = Registers::new();
+    g.load_and_check_sound(sheet.registers)?;
+    play(rt, g, sheet.sound)?;
     Ok(())
 }
 

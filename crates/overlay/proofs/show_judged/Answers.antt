@@ -5,4 +5,4 @@ use Rattle.overlay.proofs.show_judged.Goals as goal
 
 pub of-requires : goal.of-requires
 of-requires g c =
-    (given_picture c.args.g c.args.sheet.video.now c.args.sheet.cursor.now c.in-Accepted.s (sym c.in-Accepted.ensures)).accepted.n_most
+    (given_picture c.args.g c.args.sheet.video.now c.args.sheet.cursor.now c.in_ok-s.s (sym c.in_ok-s.ensures)).accepted.n_most
