@@ -1,5 +1,5 @@
 // The cells of all pixels of each byte at depths 1, 2 and 4, made once for each call.
-ghost use Rattle.std.specs.Prelude.{◌≡◌, ◌+◌, ◌*◌, ◌-◌, ◌/◌, ◌≤◌, ◌<◌, length, replicate};
+ghost use Rattle.std.specs.Prelude.{◌≡◌, ◌*◌, ◌/◌, ◌≤◌, ◌<◌};
 ghost use Rattle.buffers.specs.Painted.{painted};
 ghost use Rattle.registers.specs.inner.Accepted.{Depth};
 ghost use Rattle.frame.specs.inner.Ink.{bytes_ink};

@@ -1,5 +1,5 @@
 // A raster's cells outside the display, in a line that is made anew only where they change: sync, blank, border, blank.
-ghost use Rattle.std.specs.Prelude.{false, ◌≡◌, ◌≤◌, length};
+ghost use Rattle.std.specs.Prelude.{false, ◌≡◌};
 ghost use Rattle.frame.specs.inner.Ink.{blank_of};
 ghost use Rattle.frame.specs.inner.Lines.{anew, Edged};
 

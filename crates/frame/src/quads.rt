@@ -1,5 +1,5 @@
 // Depth 8, four cells of a word at once: each byte's cell comes from the table moved to its place in 64 bits, and they are added.
-ghost use Rattle.std.specs.Prelude.{◌≡◌, ◌+◌, ◌*◌, ◌≤◌, ◌<◌, length};
+ghost use Rattle.std.specs.Prelude.{◌≡◌, ◌*◌, length};
 ghost use Rattle.buffers.specs.Painted.{painted};
 ghost use Rattle.frame.specs.inner.Quads.{Cells, Quads, Tables, Joined, Four};
 ghost use Rattle.frame.specs.inner.Ink.{quad_cell, words_ink};
