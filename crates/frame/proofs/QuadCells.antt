@@ -90,15 +90,7 @@ module _ (quads : List ℕ) (joined : Joined quads) (w : ℕ) where
       cell (suc (suc (suc zero))) h = rw e (four cell_3 ∙ sym (word_cell quads w 3))
       cell (suc (suc (suc (suc j)))) h = absurd (omega arith)
 
--- The table of quads, as the machine makes it: each byte's cell at its four places, none of which loses a bit.
-pub moved_fits : (x j : ℕ) → x < 65536 → j < 4 → x * 2 ^ (16 * j) < 2 ^ 64
-moved_fits x zero h l = omega (arith, mul-one x)
-moved_fits x (suc zero) h l = omega arith
-moved_fits x (suc (suc zero)) h l = omega arith
-moved_fits x (suc (suc (suc zero))) h l = omega arith
-moved_fits x (suc (suc (suc (suc j)))) h l = absurd (omega arith)
-
--- The places of the bytes below b hold what they should.
+-- The table of quads, as the machine makes it: the cells of the bytes below n stand at their four places.
 abbrev pub Placed : List ℕ → List ℕ → ℕ → Type 0
 Placed table quads n = (j b : ℕ) → j < 4 → b < n → get_or quads (256 * j + b) 0 ≡ get_or table b 0 * 2 ^ (16 * j)
 
