@@ -5,16 +5,14 @@ ghost use Rattle.refusals.specs.Refusals.{says};
 ghost use Rattle.registers.specs.Load.{applied, load_told};
 ghost use Rattle.registers.specs.Record.{slot_of, reserved};
 
-use crate::record::{Registers, is_reserved};
+use crate::record::{Registers, is_reserved, slot_of};
 use refusals::{Refusal, refuse_if};
 
 // The first word whose address is reserved.
 fn first_reserved(words: &[u32]) -> Option<usize>
     ensures { result ≡ position (λ word. reserved (slot_of word)) words.now }
 {
-    words
-        .iter()
-        .position(|word| is_reserved(*word / 0x400_0000))
+    words.iter().position(|word| is_reserved(slot_of(*word)))
 }
 
 // Every word stored, in order.

@@ -2,7 +2,7 @@
 ghost use Rattle.std.specs.Prelude.{◌≡◌};
 ghost use Rattle.refusals.specs.Table.{unless_refused};
 ghost use Rattle.refusals.specs.Refusals.{says};
-ghost use Rattle.registers.specs.Record.{registers_by, fresh, stored_of, word_told, reserved};
+ghost use Rattle.registers.specs.Record.{slot_of, registers_by, fresh, stored_of, word_told, reserved};
 
 use refusals::{Refusal, refuse_if};
 
@@ -11,6 +11,13 @@ use refusals::{Refusal, refuse_if};
 pub struct Registers {
     pub values: [u32; 64],
     pub written: [bool; 64],
+}
+
+// The slot that a word names, by its highest six bits.
+pub(crate) fn slot_of(word: u32) -> u32
+    ensures { result ≡ slot_of word }
+{
+    word / 0x400_0000
 }
 
 // Whether no register has the address 4 · slot: those between the cursor's palette and the stereo registers, between the sound frequency
@@ -45,10 +52,10 @@ impl Registers {
     pub fn store(mut self, word: u32) -> Registers
         ensures { result ≡ stored_of self word }
     {
-        if is_reserved(word / 0x400_0000) {
+        if is_reserved(slot_of(word)) {
             return self;
         }
-        let slot = (word / 0x400_0000) as usize;
+        let slot = slot_of(word) as usize;
         self.values[slot] = word % 0x100_0000;
         self.written[slot] = true;
         self
@@ -60,7 +67,7 @@ impl Registers {
         ensures told { says result ≡ word_told word }
         ensures left { self.new ≡ unless_refused (word_told word) self.old (stored_of self.old word) }
     {
-        refuse_if(is_reserved(word / 0x400_0000), Refusal::Reserved(0))?;
+        refuse_if(is_reserved(slot_of(word)), Refusal::Reserved(0))?;
         *self = self.store(word);
         Ok(())
     }
