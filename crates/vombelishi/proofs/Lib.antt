@@ -1,7 +1,6 @@
+pub mod Stored
 pub mod Records
-pub mod Answers
 pub mod Loading
 pub mod Pictured
-pub mod Sounded
 pub mod Text
 pub mod Unique

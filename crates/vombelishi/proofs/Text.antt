@@ -10,9 +10,8 @@ use lib.Seq.{sets}
 use Rattle.buffers.specs.Put.{Put, text_in}
 use Rattle.buffers.proofs.Split.{lt_or_le}
 use Rattle.refusals.specs.Table.{why, given, refused}
-use Rattle.refusals.specs.Refusals.{answer_says, why_of}
+use Rattle.refusals.specs.Refusals.{why_of}
 use Rattle.refusals.specs.declared.Refusal.{Refusal}
-use Rattle.refusals.specs.declared.Answer.TheVariants as answer
 use Rattle.registers.specs.Record.{fresh}
 use Rattle.registers.specs.Check.{check_says}
 use Rattle.registers.specs.Accept.{accept_told, handed_back}
@@ -20,10 +19,10 @@ use Rattle.registers.specs.declared.record.Registers.{Registers}
 use Rattle.registers.specs.declared.setting.Setting.{Setting}
 use Rattle.registers.specs.declared.check.Checked.{Checked}
 use Rattle.registers.specs.declared.check.Checked.TheVariants as checked
-use Rattle.sheets.specs.Sheet.{part, register_words, registers_of, video_list, cursor_list}
-use Rattle.sheets.specs.Input.{input_told, input_parts, input_leaves}
-use Rattle.sheets.specs.declared.Taken.{Taken}
-use Rattle.sheets.proofs.Sheets.{input_given, input_refused, input_held}
+use Rattle.sheets.specs.Sheet.{register_words, registers_of, video_list, cursor_list}
+use Rattle.sheets.specs.Input.{input_told}
+use Rattle.sheets.specs.Lists.{Lists}
+use Rattle.sheets.specs.declared.sheet.Sheet.{Sheet}
 use Rattle.outputs.specs.Sheet.{sheet_told}
 use Rattle.outputs.specs.Text.{refused_line, picture_text, text_of}
 use Rattle.outputs.proofs.Lines.{some_text}
@@ -31,33 +30,26 @@ use Rattle.outputs.proofs.Sheets.{left, text_refused, sheet_untaken, sheet_unacc
 use Rattle.buffers.proofs.Puts.{text_short, text_fits}
 use Rattle.vombelishi.specs.Texts.{text_call}
 
--- What was taken apart, its register words loaded and checked, has the file's text.
-module _ (file o new : List ℕ) (z : Taken)
-    (t : (answer_says z.answer ≡ input_told file) × (z.parts ≡ input_parts file) × (new ≡ input_leaves file o)) where
-  pub text_untaken : (w : Refusal) → z.answer ≡ answer.Refused w → text_of file ≡ refused_line (why_of w)
-  text_untaken w q = text_refused file (why_of w) (sheet_untaken file (why_of w) (input_refused file o new z t w q))
+module _ (file : List ℕ) where
+  -- a plate that is refused
+  pub text_untaken : (w : Refusal) → input_told file ≡ refused (why_of w) → text_of file ≡ refused_line (why_of w)
+  text_untaken w e = text_refused file (why_of w) (sheet_untaken file (why_of w) e)
 
-  module _ (room : 16384 ≤ length o) (q : z.answer ≡ answer.Done) where
-    -- the words that are loaded
-    pub words_held : part new 0 z.parts.video ≡ register_words file
-    words_held = (input_held file o new z t room q).registers
+  -- one that is taken apart, its register words loaded and checked
+  module _ (s : Sheet) (lists : Lists file s) (n : Registers) (e : n ≡ fresh) (x : Checked) (says : check_says x ≡ accept_told n s.registers.now) where
+    told : check_says x ≡ accept_told fresh (register_words file)
+    told = says ∙ rw (e, lists.registers)
 
-    module _ (n : Registers) (e : n ≡ fresh) (x : Checked) (says : check_says x ≡ accept_told n (part new 0 z.parts.video)) where
-      told : check_says x ≡ accept_told fresh (register_words file)
-      told = says ∙ rw (e, words_held)
+    pub text_unaccepted : (w : Refusal) → x ≡ checked.Refused w → text_of file ≡ refused_line (why_of w)
+    text_unaccepted w p =
+        text_refused file (why_of w) (sheet_unaccepted file (why_of w) lists.taken (sym told ∙ ap check_says p))
 
-      pub text_unaccepted : (w : Refusal) → x ≡ checked.Refused w → text_of file ≡ refused_line (why_of w)
-      text_unaccepted w p =
-          text_refused file (why_of w) (sheet_unaccepted file (why_of w) (input_given file o new z t q) (sym told ∙ ap check_says p))
-
-      pub text_held : (s : Setting) → x ≡ checked.Accepted s → (g : Registers)
-          → g ≡ handed_back (accept_told n (part new 0 z.parts.video)) n (part new 0 z.parts.video)
-          → picture_text g (part new z.parts.video z.parts.cursor) (part new z.parts.cursor z.parts.sound) ≡ text_of file
-      text_held s p g left_is =
-          let h = input_held file o new z t room q in
-          let given_is : accept_told fresh (register_words file) ≡ given s = sym told ∙ ap check_says p in
-          let own : g ≡ registers_of file = left_is ∙ rw (e, words_held, given_is) (left file) in
-          rw (own, h.video, h.cursor) (sym (text_accepted file (input_given file o new z t q) s given_is))
+    pub text_held : (a : Setting) → x ≡ checked.Accepted a → (g : Registers) → g ≡ handed_back (accept_told n s.registers.now) n s.registers.now
+        → picture_text g s.video.now s.cursor.now ≡ text_of file
+    text_held a p g left_is =
+        let given_is : accept_told fresh (register_words file) ≡ given a = sym told ∙ ap check_says p in
+        let own : g ≡ registers_of file = left_is ∙ rw (e, lists.registers, given_is) (left file) in
+        rw (own, lists.video, lists.cursor) (sym (text_accepted file lists.taken a given_is))
 
 -- The call: what was put, of a text that has at least a byte.
 module _ (file text after : List ℕ) (n : ℕ) (put : Put text after 0 (text_in (length text) (text_of file)) n) where

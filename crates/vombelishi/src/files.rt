@@ -7,9 +7,10 @@ ghost use Rattle.vombelishi.specs.Code.{answer_code, stored_by, cell_by};
 ghost use Rattle.vombelishi.specs.Files.{nine_of, read_call};
 
 use crate::code::{SHORT, answered, refused};
-use crate::put::store_numbers;
+use crate::put::store;
 use plates::{Reading, Sections, Writing};
 
+#[tactic(auto, unfolding(crate::specs::Files::nine_of))]
 fn put_sections(p: Sections, out: &mut [u64])
     requires { 9 ≤ length out.old }
     ensures { out.new ≡ sets out.old 0 (nine_of p) }
@@ -20,15 +21,16 @@ fn put_sections(p: Sections, out: &mut [u64])
         p.cursor as u64,
         p.sound as u64,
         p.trailer as u64,
-        p.r as u64,
-        p.v as u64,
-        p.c as u64,
-        p.s as u64,
+        u64::from(p.r),
+        u64::from(p.v),
+        u64::from(p.c),
+        u64::from(p.s),
     ];
-    store_numbers(out, &numbers);
+    store(out, &numbers);
 }
 
 // The five starts in bytes and R, V, C, S; 14, then 13 for `places`.
+#[tactic(auto, unfolding(crate::specs::Files::read_call))]
 pub fn vom_read(file: &[u8], places: &mut [u64]) -> u64
     ensures { (result ≡ answer_code (read_call file.now (length places.old)))
         × (places.new ≡ stored_by (read_call file.now (length places.old)) places.old) }

@@ -3,11 +3,12 @@ ghost use Rattle.std.specs.Prelude.{◌≡◌, length};
 ghost use Rattle.vombelishi.specs.Code.{answer_code};
 ghost use Rattle.vombelishi.specs.Pictures.{frame_call, frame_call_leaves, raster_call, raster_call_leaves};
 
-use crate::code::{SHORT, answered};
-use crate::record::{lacks, record_of};
+use crate::code::{answered, refused};
+use crate::record::record;
 use registers::units::Rasters;
 
 // All N·V cells; 13 for slices shorter than 64, then the setting's, 11, 13.
+#[tactic(auto, unfolding(crate::specs::Pictures::frame_call, crate::specs::Pictures::frame_call_leaves))]
 pub fn vom_frame(
     values: &[u32],
     written: &[u8],
@@ -19,13 +20,14 @@ pub fn vom_frame(
         × (cells.new
         ≡ frame_call_leaves values.now written.now video.now cursor.now cells.old) }
 {
-    if lacks(values, written) {
-        return SHORT;
+    match record(values, written) {
+        Err(why) => refused(why),
+        Ok(g) => answered(frame::frame(g, video, cursor, cells)),
     }
-    answered(frame::frame(record_of(values, written), video, cursor, cells))
 }
 
 // The N cells of raster y; 13 for slices shorter than 64, then the setting's, 11, 12, 13.
+#[tactic(auto, unfolding(crate::specs::Pictures::raster_call, crate::specs::Pictures::raster_call_leaves))]
 pub fn vom_raster(
     values: &[u32],
     written: &[u8],
@@ -38,8 +40,8 @@ pub fn vom_raster(
         × (cells.new
         ≡ raster_call_leaves values.now written.now video.now cursor.now y cells.old) }
 {
-    if lacks(values, written) {
-        return SHORT;
+    match record(values, written) {
+        Err(why) => refused(why),
+        Ok(g) => answered(frame::raster(g, video, cursor, Rasters(y), cells)),
     }
-    answered(frame::raster(record_of(values, written), video, cursor, Rasters(y), cells))
 }

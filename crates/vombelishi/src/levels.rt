@@ -5,10 +5,11 @@ ghost use Rattle.colours.specs.Pin.{pin_of};
 ghost use Rattle.vombelishi.specs.Code.{answer_code, part_by};
 ghost use Rattle.vombelishi.specs.Pictures.{colour_call, colour_part, supremacy_part};
 
-use crate::code::SHORT;
-use crate::record::{lacks, record_of};
+use crate::code::refused;
+use crate::record::record;
 
 // The 12-bit colour of a logical pixel, and 1 where it has supremacy, else 0; 13 for slices shorter than 64.
+#[tactic(auto, unfolding(crate::specs::Pictures::colour_call))]
 pub fn vom_colour(
     values: &[u32],
     written: &[u8],
@@ -22,13 +23,15 @@ pub fn vom_colour(
         × (supremacy.new
         ≡ part_by (colour_call values.now written.now depth pixel) supremacy_part supremacy.old) }
 {
-    if lacks(values, written) {
-        return SHORT;
+    match record(values, written) {
+        Err(why) => refused(why),
+        Ok(g) => {
+            let shown = colours::colour(g, depth, pixel);
+            *colour = shown.colour;
+            *supremacy = u8::from(shown.supremacy);
+            0
+        },
     }
-    let shown = colours::colour(record_of(values, written), depth, pixel);
-    *colour = shown.colour;
-    *supremacy = shown.supremacy as u8;
-    0
 }
 
 pub fn vom_grey(colour: u16) -> u8

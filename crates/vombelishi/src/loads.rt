@@ -8,43 +8,41 @@ ghost use Rattle.vombelishi.specs.Load.{accepted_told, accept_call, accept_value
 ghost use Rattle.vombelishi.specs.Load.{accept_sound_call, sound_values_leaves, sound_written_leaves, word_call, word_values_leaves, word_written_leaves};
 
 use crate::code::{SHORT, refused};
-use crate::record::{lacks, record_of};
+use crate::record::record;
 use crate::settings::{NUMBERS, put_setting};
-use refusals::{Answer, Refusal};
+use refusals::Answer;
 use registers::check::Checked;
-use registers::record::Registers;
 
 // The setting of the record that a list leaves.
+#[tactic(auto, unfolding(crate::specs::Load::accepted_told))]
 fn judge_list(values: &[u32], written: &[u8], words: &[u32]) -> Checked
     ensures { check_says result ≡ accepted_told values.now written.now words.now }
 {
-    if lacks(values, written) {
-        return Checked::Refused(Refusal::Short);
+    match record(values, written) {
+        Err(why) => Checked::Refused(why),
+        Ok(g) => g.load_and_check(words).checked,
     }
-    let verdict = record_of(values, written).load_and_check(words);
-    verdict.checked
 }
 
 // Whether the record that a list leaves can be played.
+#[tactic(auto, unfolding(crate::specs::Load::accept_sound_call))]
 fn judge_sound_list(values: &[u32], written: &[u8], words: &[u32]) -> Answer
     ensures { answer_says result ≡ accept_sound_call values.now written.now words.now }
 {
-    if lacks(values, written) {
-        return Answer::Refused(Refusal::Short);
+    match record(values, written) {
+        Err(why) => Answer::Refused(why),
+        Ok(g) => g.load_and_check_sound(words).answer,
     }
-    let loaded = record_of(values, written).load_and_check_sound(words);
-    loaded.answer
 }
 
-// Whether a word is accepted does not hang on the record's contents, so a fresh one judges it.
+#[tactic(auto, unfolding(crate::specs::Load::word_call))]
 fn judge_word(values: &[u32], written: &[u8], word: u32) -> Answer
     ensures { answer_says result ≡ word_call values.now written.now word }
 {
-    if lacks(values, written) {
-        return Answer::Refused(Refusal::Short);
+    match record(values, written) {
+        Err(why) => Answer::Refused(why),
+        Ok(g) => g.load_word(word).answer,
     }
-    let loaded = Registers::new().load_word(word);
-    loaded.answer
 }
 
 fn store_word(values: &mut [u32], written: &mut [u8], word: u32)
@@ -62,15 +60,14 @@ fn store_list(values: &mut [u32], written: &mut [u8], words: &[u32])
     ensures { (values.new ≡ values_stored values.old words.now)
         × (written.new ≡ flags_stored written.old words.now) }
 {
-    let mut i = 0;
-    while i < words.len() {
-        store_word(values, written, words[i]);
-        i += 1;
+    for word in words {
+        store_word(values, written, *word);
     }
 }
 
 // The words stored in order, and the 21 numbers of the setting that they leave; 13 for slices shorter than 64, then 1, 2 and the setting's, then 13
 // for `setting`.
+#[tactic(auto, unfolding(crate::specs::Load::accept_call, crate::specs::Load::accept_values_leaves, crate::specs::Load::accept_written_leaves))]
 pub fn vom_load_and_check(
     values: &mut [u32],
     written: &mut [u8],
@@ -100,6 +97,7 @@ pub fn vom_load_and_check(
 }
 
 // The words stored in order where they leave a record that can be played; 13 for slices shorter than 64, then 1, 2, 3, 10.
+#[tactic(auto, unfolding(crate::specs::Load::sound_values_leaves, crate::specs::Load::sound_written_leaves))]
 pub fn vom_load_and_check_sound(values: &mut [u32], written: &mut [u8], words: &[u32]) -> u64
     ensures { (result ≡ answer_code (accept_sound_call values.old written.old words.now))
         × (values.new ≡ sound_values_leaves values.old written.old words.now)
@@ -115,6 +113,7 @@ pub fn vom_load_and_check_sound(values: &mut [u32], written: &mut [u8], words: &
 }
 
 // One word alone; 13 for slices shorter than 64, then 2 with detail 0.
+#[tactic(auto, unfolding(crate::specs::Load::word_values_leaves, crate::specs::Load::word_written_leaves))]
 pub fn vom_load_word(values: &mut [u32], written: &mut [u8], word: u32) -> u64
     ensures { (result ≡ answer_code (word_call values.old written.old word))
         × (values.new ≡ word_values_leaves values.old written.old word)

@@ -3,10 +3,11 @@ ghost use Rattle.std.specs.Prelude.{◌≡◌, length};
 ghost use Rattle.vombelishi.specs.Code.{answer_code};
 ghost use Rattle.vombelishi.specs.Pictures.{mix_call, mix_call_leaves};
 
-use crate::code::{SHORT, answered};
-use crate::record::{lacks, record_of};
+use crate::code::{answered, refused};
+use crate::record::record;
 
 // The N mixed colours; 13 for slices shorter than 64, then the setting's, 13, 20.
+#[tactic(auto, unfolding(crate::specs::Pictures::mix_call, crate::specs::Pictures::mix_call_leaves))]
 pub fn vom_mix(
     values: &[u32],
     written: &[u8],
@@ -18,8 +19,8 @@ pub fn vom_mix(
         × (mixed.new
         ≡ mix_call_leaves values.now written.now cells.now camera.now mixed.old) }
 {
-    if lacks(values, written) {
-        return SHORT;
+    match record(values, written) {
+        Err(why) => refused(why),
+        Ok(g) => answered(mixing::mix(g, cells, camera, mixed)),
     }
-    answered(mixing::mix(record_of(values, written), cells, camera, mixed))
 }

@@ -2,24 +2,10 @@
 ghost use Rattle.std.specs.Prelude.{◌≡◌, ◌≤◌, length};
 ghost use Rattle.std.proofs.lemmas.List.Edits.{sets};
 
-pub fn store_words(out: &mut [u32], values: &[u32])
+#[tactic(auto, using(crate::proofs::Stored::sets_front))]
+pub fn store<T: Copy>(out: &mut [T], values: &[T])
     requires { length values.now ≤ length out.old }
     ensures { out.new ≡ sets out.old 0 values.now }
 {
-    let mut k = 0;
-    while k < values.len() {
-        out[k] = values[k];
-        k += 1;
-    }
-}
-
-pub fn store_numbers(out: &mut [u64], values: &[u64])
-    requires { length values.now ≤ length out.old }
-    ensures { out.new ≡ sets out.old 0 values.now }
-{
-    let mut k = 0;
-    while k < values.len() {
-        out[k] = values[k];
-        k += 1;
-    }
+    out[..values.len()].copy_from_slice(values);
 }

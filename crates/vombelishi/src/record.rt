@@ -1,27 +1,21 @@
 // A register record from two slices: the first 64 of each count, and a byte that is not 0 means written.
-ghost use Rattle.std.specs.Prelude.{◌≡◌, ◌≤◌, length};
-ghost use Rattle.vombelishi.specs.Record.{lacking, record_of};
+ghost use Rattle.std.specs.Prelude.{◌≡◌, MatchResult};
+ghost use Rattle.refusals.specs.Table.{given};
+ghost use Rattle.refusals.specs.Refusals.{refusal};
+ghost use Rattle.vombelishi.specs.Record.{record_told};
 
+use refusals::Refusal;
 use registers::record::Registers;
 
-// Whether a slice is too short to be half a record.
-pub fn lacks(values: &[u32], written: &[u8]) -> bool
-    ensures { result ≡ lacking values.now written.now }
+// The record, or 13 where a slice is too short to be half of one.
+#[tactic(auto, unfolding(crate::specs::Record::record_told))]
+pub fn record(values: &[u32], written: &[u8]) -> Result<Registers, Refusal>
+    ensures { MatchResult result (λ g. record_told values.now written.now ≡ given g) (λ why. record_told values.now written.now ≡ refusal why) }
 {
-    (values.len() < 64) | (written.len() < 64)
-}
-
-pub fn record_of(values: &[u32], written: &[u8]) -> Registers
-    requires { (64 ≤ length values.now) × (64 ≤ length written.now) }
-    ensures { result ≡ record_of values.now written.now }
-{
-    let mut numbers = [0u32; 64];
-    let mut flags = [false; 64];
-    let mut k = 0;
-    while k < 64 {
-        numbers[k] = values[k];
-        flags[k] = written[k] != 0;
-        k += 1;
+    match (values.first_chunk::<64>(), written.first_chunk::<64>()) {
+        (Some(values), Some(written)) => {
+            Ok(Registers::of_slots(*values, written.map(|byte| byte != 0)))
+        }
+        _ => Err(Refusal::Short),
     }
-    Registers::of_slots(numbers, flags)
 }

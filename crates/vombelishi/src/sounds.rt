@@ -4,12 +4,14 @@ ghost use Rattle.vombelishi.specs.Code.{answer_code, stored_by};
 ghost use Rattle.vombelishi.specs.Sounds.{sound_call, sound_leaves, counter_leaves, pair_call};
 
 use crate::code::{SHORT, refused};
-use crate::record::{lacks, record_of};
+use crate::put::store;
+use crate::record::record;
 use refusals::Answer;
 use sound::Pairing;
 
 // 8 values for each word. The cell holds the counter before the first byte, and afterwards that after the last.
 // 13 for slices shorter than 64, then 3, 10, 13 for `out`.
+#[tactic(auto, unfolding(crate::specs::Sounds::sound_call, crate::specs::Sounds::sound_leaves, crate::specs::Sounds::counter_leaves))]
 pub fn vom_sound(
     values: &[u32],
     written: &[u8],
@@ -23,21 +25,24 @@ pub fn vom_sound(
         × (out.new
         ≡ sound_leaves values.now written.now words.now counter.old out.old) }
 {
-    if lacks(values, written) {
-        return SHORT;
-    }
-    let played = sound::play(record_of(values, written), words, *counter, out);
-    let answer = played.answer;
-    match answer {
-        Answer::Refused(why) => refused(why),
-        Answer::Done => {
-            *counter = played.counter;
-            0
-        }
+    match record(values, written) {
+        Err(why) => refused(why),
+        Ok(g) => {
+            let played = sound::play(g, words, *counter, out);
+            let answer = played.answer;
+            match answer {
+                Answer::Refused(why) => refused(why),
+                Answer::Done => {
+                    *counter = played.counter;
+                    0
+                }
+            }
+        },
     }
 }
 
 // One byte's left and right value in sixths; 10 for a stereo value 0 modulo 8, then 13 for `pair`.
+#[tactic(auto, unfolding(crate::specs::Sounds::pair_call))]
 pub fn vom_sound_pair(byte: u8, stereo: u8, pair: &mut [i16]) -> u64
     ensures { (result ≡ answer_code (pair_call byte stereo (length pair.old)))
         × (pair.new ≡ stored_by (pair_call byte stereo (length pair.old)) pair.old) }
@@ -48,10 +53,7 @@ pub fn vom_sound_pair(byte: u8, stereo: u8, pair: &mut [i16]) -> u64
             if pair.len() < 2 {
                 return SHORT;
             }
-            let left = sides.left;
-            let right = sides.right;
-            pair[0] = left;
-            pair[1] = right;
+            store(pair, &[sides.left, sides.right]);
             0
         }
     }

@@ -3,10 +3,11 @@ ghost use Rattle.std.specs.Prelude.{◌≡◌, length};
 ghost use Rattle.vombelishi.specs.Code.{answer_code};
 ghost use Rattle.vombelishi.specs.Summaries.{summaries_call, summaries_call_leaves, replace_call, video_call_leaves, replace_call_leaves};
 
-use crate::code::{SHORT, answered};
-use crate::record::{lacks, record_of};
+use crate::code::{answered, refused};
+use crate::record::record;
 
 // Three numbers to a displayed raster; 13 for slices shorter than 64, then the setting's, 11, 13.
+#[tactic(auto, unfolding(crate::specs::Summaries::summaries_call, crate::specs::Summaries::summaries_call_leaves))]
 pub fn vom_summaries(
     values: &[u32],
     written: &[u8],
@@ -19,19 +20,14 @@ pub fn vom_summaries(
         × (entries.new
         ≡ summaries_call_leaves values.now written.now video.now cursor.now threshold entries.old) }
 {
-    if lacks(values, written) {
-        return SHORT;
+    match record(values, written) {
+        Err(why) => refused(why),
+        Ok(g) => { answered(marks::summaries::summaries(g, video, cursor, threshold, entries)) },
     }
-    answered(marks::summaries::summaries(
-        record_of(values, written),
-        video,
-        cursor,
-        threshold,
-        entries,
-    ))
 }
 
 // One word, and its raster's three numbers; 13 for slices shorter than 64, then the setting's, 11, 18, 13.
+#[tactic(auto, unfolding(crate::specs::Summaries::replace_call, crate::specs::Summaries::video_call_leaves, crate::specs::Summaries::replace_call_leaves))]
 pub fn vom_replace(
     values: &[u32],
     written: &[u8],
@@ -49,16 +45,10 @@ pub fn vom_replace(
         × (entries.new
         ≡ replace_call_leaves values.now written.now video.old cursor.now threshold index word entries.old) }
 {
-    if lacks(values, written) {
-        return SHORT;
+    match record(values, written) {
+        Err(why) => refused(why),
+        Ok(g) => {
+            answered(marks::summaries::replace(g, video, cursor, threshold, index, word, entries))
+        },
     }
-    answered(marks::summaries::replace(
-        record_of(values, written),
-        video,
-        cursor,
-        threshold,
-        index,
-        word,
-        entries,
-    ))
 }
