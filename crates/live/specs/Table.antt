@@ -1,6 +1,7 @@
--- What a bench reads and notes: the frame's words with filler behind them, and a table with three numbers for each raster.
-use Rattle.std.specs.Prelude.{ℕ, ◌+◌, ◌*◌, ◌/◌, ◌%◌, ◌^◌, List, length, nat_lt, slice_index, slice_set}
+-- What a bench reads and notes: the frame's words with filler behind them, and a table with a row for each raster.
+use Rattle.std.specs.Prelude.{ℕ, ◌+◌, ◌*◌, ◌/◌, ◌%◌, ◌^◌, List, length, nat_lt, slice_index, slice_index_or, slice_set}
 use Rattle.buffers.specs.Pick.{pick}
+use Rattle.live.specs.declared.bench.Row.{Row}
 
 -- A sum of 32 bits.
 abbrev pub plus : ℕ → ℕ → ℕ
@@ -14,8 +15,12 @@ abbrev pub byte_or : List ℕ → ℕ → ℕ
 byte_or words at = word_or words (at / 4) / 2 ^ (8 * (at % 4)) % 256
 
 -- Beforehand a raster's row has the words that its sync asks for and the bytes that its display takes; afterwards the totals at its end.
-abbrev pub number_at : List ℕ → ℕ → ℕ → ℕ
-number_at told raster k = pick (nat_lt (3 * raster + k) (length told)) (slice_index told (3 * raster + k)) 0
+-- Behind the table's end stand zeros, and nothing is put there.
+abbrev pub no_row : Row
+no_row = record { asked = 0; loaded = 0; read = 0 }
 
-abbrev pub number_put : List ℕ → ℕ → ℕ → ℕ → List ℕ
-number_put told raster k n = pick (nat_lt (3 * raster + k) (length told)) (slice_set told (3 * raster + k) n) told
+abbrev pub row_at : List Row → ℕ → Row
+row_at told raster = slice_index_or told raster no_row
+
+abbrev pub row_put : List Row → ℕ → Row → List Row
+row_put told raster row = slice_set told raster row

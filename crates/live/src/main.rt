@@ -6,80 +6,81 @@ mod bench;
 mod run;
 mod said;
 
-use bench::{Bench, Totals, put_number};
+use bench::{Bench, Row, Totals};
 use cells::judge;
 use queues::Queue;
 use queues::syncs::video_ask;
 use registers::check::Checked;
 use registers::record::Registers;
 use registers::setting::Setting;
-use registers::units::{Pixels, Rasters};
 use run::run;
 use said::{say_end, say_rasters};
 use standard_plate::{Failure, Room};
 use std::io;
 
-fn wide(rasters: Rasters) -> u32 {
-    rasters.0 as u32
-}
+// How many words a plate has at most.
+const MOST_WORDS: usize = 16_384;
 
-// The bytes of some pixels of some bits each.
-fn bytes_for(width: Pixels, bits: u8) -> u32 {
-    (width.0 as u32) * (bits as u32) / 8
-}
+// How many rasters a frame has at most.
+const MOST_RASTERS: usize = 1024;
 
 // The bytes that the display takes on a raster.
 fn bytes_of(s: Setting, raster: u32) -> u32 {
-    if (wide(s.vds) <= raster) & (raster < wide(s.vde)) {
-        return bytes_for(s.de.width_from(s.ds), s.depth);
+    if (u32::from(s.vds.0) <= raster) & (raster < u32::from(s.vde.0)) {
+        u32::from(s.de.width_from(s.ds).0) * u32::from(s.depth) / 8
+    } else {
+        0
     }
-    0
 }
 
-// The table beforehand: for each raster the words that its sync asks for, and the bytes that its display takes.
-fn fill(g: Registers, s: Setting, told: &mut [u32]) {
-    let mut raster = 0;
-    while raster < 1024 {
-        put_number(told, raster, 0, video_ask(g, raster));
-        put_number(told, raster, 1, bytes_of(s, raster));
-        raster += 1;
+// A raster's row beforehand: the words that its sync asks for, and the bytes that its display takes.
+fn beforehand(g: Registers, s: Setting, raster: u32) -> Row {
+    Row {
+        asked: video_ask(g, raster),
+        loaded: bytes_of(s, raster),
+        read: 0,
     }
+}
+
+fn table(g: Registers, s: Setting) -> [Row; MOST_RASTERS] {
+    let mut told = [Row::default(); MOST_RASTERS];
+    for (raster, row) in (0u32..).zip(&mut told) {
+        *row = beforehand(g, s, raster);
+    }
+    told
 }
 
 // Enough ticks: two for each raster, four for each word's bytes, one for each word loaded, filler included.
-fn ticks(rasters: u32, words: usize) -> u32 {
-    2 * (rasters % 0x1_0000) + 5 * (buffers::least(words, 16384) as u32) + 32
+fn ticks(rasters: u16, words: usize) -> u32 {
+    2 * u32::from(rasters) + 5 * words.min(MOST_WORDS) as u32 + 32
 }
 
 // The bench before its first tick.
 fn idle(control: u32, rasters: u32) -> Bench {
-    let totals = Totals {
-        asked: 0,
-        words: 0,
-        bytes: 0,
-        own: 0,
-    };
     Bench {
-        what: 4,
-        n: 0,
-        control: control,
-        rasters: rasters,
+        last: None,
+        control,
+        rasters,
         raster: 0,
         block: 0,
         left: 0,
-        totals: totals,
+        totals: Totals {
+            asked: 0,
+            words: 0,
+            bytes: 0,
+            own: 0,
+        },
     }
 }
 
 // One frame with one video queue.
 fn run_frame(rt: &impl Print, g: Registers, s: Setting, video: &[u32]) -> io::Result<()> {
-    let mut told = [0u32; 3072];
-    fill(g, s, &mut told);
-    let rasters = s.v.0 as u32;
+    let mut told = table(g, s);
+    let rasters = u32::from(s.v.0);
     let after = run(
         Queue::fresh(0),
         idle(g.control(), rasters),
-        ticks(rasters, video.len()),
+        ticks(s.v.0, video.len()),
         video,
         &mut told,
     );

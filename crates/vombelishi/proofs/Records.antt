@@ -8,13 +8,21 @@ use lib.Dec.{ltb}
 use lib.ListN.{length, get_or}
 use borrow.Author.Tests.{ltb-false, lt-ltb, le-ltb}
 use Rattle.std.specs.Array.{IsFirstChunk}
-use Rattle.std.proofs.lemmas.List.{ext_get_or, get_or-map, length-map, length-take-le}
+use Rattle.std.proofs.Common.{below_more, set, ◌+◌}
+use Rattle.std.proofs.lemmas.List.{get_or-set_same, get_or-set_other, ext_get_or, get_or-map, length-map, length-take-le}
 use Rattle.buffers.proofs.Tests.{no, or_right}
 use Rattle.refusals.specs.Table.{why, Told, given, refused, row, judged, and_then}
 use Rattle.registers.specs.Record.{registers_by}
 use Rattle.registers.specs.declared.record.Registers.{Registers}
 use Rattle.refusals.proofs.Tables.{never}
 use Rattle.vombelishi.specs.Record.{is_set, record_of, lacking, record_told}
+
+-- One flag more.
+pub flag_more : (fs : List Bool) (bs : List ℕ) (k : ℕ) → k < length fs → ((i : ℕ) → i < k → get_or fs i false ≡ is_set (get_or bs i 0))
+    → (i : ℕ) → i < k + 1 → get_or (set fs k (is_set (get_or bs k 0))) i false ≡ is_set (get_or bs i 0)
+flag_more fs bs k h so_far =
+    below_more (λ i. get_or (set fs k (is_set (get_or bs k 0))) i false ≡ is_set (get_or bs i 0)) k
+    (λ i b. get_or-set_other fs k i _ false (λ e. omega (arith, e, b)) ∙ so_far i b) (get_or-set_same fs k _ false h)
 
 module _ (values written : List ℕ) where
   -- the first 64 of each list, as arrays

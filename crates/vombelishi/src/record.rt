@@ -12,10 +12,12 @@ use registers::record::Registers;
 pub fn record(values: &[u32], written: &[u8]) -> Result<Registers, Refusal>
     ensures { MatchResult result (λ g. record_told values.now written.now ≡ given g) (λ why. record_told values.now written.now ≡ refusal why) }
 {
-    match (values.first_chunk::<64>(), written.first_chunk::<64>()) {
-        (Some(values), Some(written)) => {
-            Ok(Registers::of_slots(*values, written.map(|byte| byte != 0)))
-        }
-        _ => Err(Refusal::Short),
+    let (Some(numbers), Some(bytes)) = (values.first_chunk(), written.first_chunk::<64>()) else {
+        return Err(Refusal::Short);
+    };
+    let mut flags = [false; 64];
+    for (k, flag) in flags.iter_mut().enumerate() {
+        *flag = bytes[k] != 0;
     }
+    Ok(Registers::of_slots(*numbers, flags))
 }

@@ -1,14 +1,16 @@
--- Two arrays of 64 make the record; a slice that is shorter makes none.
-use Rattle.std.proofs.Common.{rules, false}
-use Rattle.vombelishi.proofs.Records.{record_made, short_written}
+-- Each flag says whether its byte is not 0; a slice that is shorter than 64 makes no record.
+use Rattle.std.proofs.Common.{arith}
+use Rattle.vombelishi.proofs.Records.{flag_more, record_made, short_written}
 use Rattle.vombelishi.proofs.record.record.Goals as goal
 
-pub returns-in-Some-Some : goal.returns-in-Some-Some
-returns-in-Some-Some c =
-    let arm = c.in-Some-Some in
-    let flags = c.map.ensures.items in
+pub loop-k-preserved : goal.loop-k-preserved
+loop-k-preserved c = flag_more c.loop-k.flag-items c.in-Some-Some.bytes.now c.loop-k.k (omega arith) c.loop-k.invariant
+
+pub returns : goal.returns
+returns c =
+    let chunks = c.in-Some-Some in
     rw c.of_slots.ensures
-    (record_made _ _ _ _ _ arm.ensures.cases arm.ensures'.cases flags.long (λ k h. let called = flags.at k 0 false h in search rules))
+    (record_made _ _ _ _ _ chunks.ensures.cases chunks.ensures'.cases c.loop-k-test.array_long (λ k h. c.loop-k.invariant k (omega arith)))
 
 pub returns-in_default : goal.returns-in_default
 returns-in_default c = short_written _ _ c.in_default.ensures'.cases
