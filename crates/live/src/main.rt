@@ -10,7 +10,6 @@ use bench::{Bench, Row, Totals};
 use cells::judge;
 use queues::Queue;
 use queues::syncs::video_ask;
-use registers::check::Checked;
 use registers::record::Registers;
 use registers::setting::Setting;
 use run::run;
@@ -92,17 +91,11 @@ fn run_frame(rt: &impl Print, g: Registers, s: Setting, video: &[u32]) -> io::Re
 fn run_input(rt: &(impl io::Input + Print)) -> Result<(), Failure> {
     let mut room = Room::default();
     let sheet = room.sheet(rt)?;
-    let verdict = Registers::new().load_and_check(sheet.registers);
-    if let Checked::Refused(why) = verdict.checked {
-        return Err(Failure::Refused(why));
-    }
-    match judge(verdict.registers, sheet.video, sheet.cursor) {
-        Checked::Refused(why) => Err(Failure::Refused(why)),
-        Checked::Accepted(s) => {
-            run_frame(rt, verdict.registers, s, sheet.video)?;
-            Ok(())
-        }
-    }
+    let mut g = Registers::new();
+    g.load_and_check(sheet.registers)?;
+    let s = judge(g, sheet.video, sheet.cursor)?;
+    run_frame(rt, g, s, sheet.video)?;
+    Ok(())
 }
 
 fn main(rt: HostRuntime) {

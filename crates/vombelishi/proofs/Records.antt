@@ -27,7 +27,7 @@ flag_more fs bs k h so_far =
 module _ (values written : List ℕ) where
   -- the first 64 of each list, as arrays
   pub record_made : (ns bs : List ℕ) (fs : List Bool) → IsFirstChunk values ns 64 → IsFirstChunk written bs 64 → length fs ≡ 64
-      → ((k : ℕ) → k < 64 → get_or fs k false ≡ is_set (get_or bs k 0)) → record_told values written ≡ given (registers_by ns fs)
+      → ((k : ℕ) → k < 64 → get_or fs k false ≡ is_set (get_or bs k 0)) → given (registers_by ns fs) ≡ record_told values written
   unfolding record_told record_of
   record_made ns bs fs a b long each =
       let n : length bs ≡ 64 = rw b.same (length-take-le 64 written b.enough) in
@@ -36,35 +36,15 @@ module _ (values written : List ℕ) where
       rw (le-ltb _ _ a.enough, le-ltb _ _ b.enough, flags, a.same, b.same)
 
   -- one list, too short to be half a record
-  pub short_written : length written < 64 → record_told values written ≡ refused (why 13 0)
+  pub short_written : length written < 64 → refused (why 13 0) ≡ record_told values written
   unfolding record_told
   short_written h = rw (or_right (ltb (length values) 64) (lt-ltb _ _ h))
 
   -- a record that is told is theirs
-  pub record_is : (g : Registers) → record_told values written ≡ given g → record_of values written ≡ g
+  pub record_is : (g : Registers) → given g ≡ record_told values written → record_of values written ≡ g
   unfolding record_told
   record_is g e = go (lacking values written) e
     where
-      go : (b : Bool) → judged (row 13 b 0 ∷ []) (record_of values written) ≡ given g → record_of values written ≡ g
-      go true h = never (sym h)
+      go : (b : Bool) → given g ≡ judged (row 13 b 0 ∷ []) (record_of values written) → record_of values written ≡ g
+      go true h = never h
       go false h = cc
-
-  long_enough : lacking values written ≡ false → (64 ≤ length values) × (64 ≤ length written)
-  long_enough e = both (ltb (length values) 64) (ltb (length written) 64) refl refl e
-    where
-      both : (a b : Bool) → ltb (length values) 64 ≡ a → ltb (length written) 64 ≡ b → a || b ≡ false
-          → (64 ≤ length values) × (64 ≤ length written)
-      both false false p q h = (ltb-false _ _ p, ltb-false _ _ q)
-      both false true p q h = absurd (no (sym h))
-      both true b p q h = absurd (no (sym h))
-
-  -- a call of a record that is given something has one
-  module _ {A : Type 0} (call : Registers → Told A) where
-    pub not_short : (a : A) → and_then (record_told values written) call ≡ given a → (64 ≤ length values) × (64 ≤ length written)
-    unfolding record_told
-    not_short a e = go (lacking values written) refl e
-      where
-        go : (b : Bool) → lacking values written ≡ b → and_then (judged (row 13 b 0 ∷ []) (record_of values written)) call ≡ given a
-            → (64 ≤ length values) × (64 ≤ length written)
-        go true l h = never (sym h)
-        go false l h = long_enough l

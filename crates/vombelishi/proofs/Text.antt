@@ -10,15 +10,14 @@ use lib.Seq.{sets}
 use Rattle.buffers.specs.Put.{Put, text_in}
 use Rattle.buffers.proofs.Split.{lt_or_le}
 use Rattle.refusals.specs.Table.{why, given, refused}
-use Rattle.refusals.specs.Refusals.{why_of}
+use Rattle.std.specs.Prelude.{Result, Err, IsErrAnd}
+use Rattle.std.proofs.lemmas.Result.{err_from_is_err_and}
+use Rattle.refusals.specs.Refusals.{refusal, why_of}
 use Rattle.refusals.specs.declared.Refusal.{Refusal}
 use Rattle.registers.specs.Record.{fresh}
-use Rattle.registers.specs.Check.{check_says}
 use Rattle.registers.specs.Accept.{accept_told, handed_back}
 use Rattle.registers.specs.declared.record.Registers.{Registers}
 use Rattle.registers.specs.declared.setting.Setting.{Setting}
-use Rattle.registers.specs.declared.check.Checked.{Checked}
-use Rattle.registers.specs.declared.check.Checked.TheVariants as checked
 use Rattle.sheets.specs.Sheet.{register_words, registers_of, video_list, cursor_list}
 use Rattle.sheets.specs.Input.{input_told}
 use Rattle.sheets.specs.Lists.{Lists}
@@ -30,24 +29,28 @@ use Rattle.outputs.proofs.Sheets.{left, text_refused, sheet_untaken, sheet_unacc
 use Rattle.buffers.proofs.Puts.{text_short, text_fits}
 use Rattle.vombelishi.specs.Texts.{text_call}
 
+-- What a `?` hands on is the error that it was handed.
+pub handed_err : {A : Type 0} (r : Result A Refusal) (q : Refusal) → IsErrAnd r (λ y. y ≡ q) → r ≡ Err q
+handed_err r q h = let p = err_from_is_err_and r h in p.1 ∙ ap Err p.2
+
 module _ (file : List ℕ) where
   -- a plate that is refused
-  pub text_untaken : (w : Refusal) → input_told file ≡ refused (why_of w) → text_of file ≡ refused_line (why_of w)
-  text_untaken w e = text_refused file (why_of w) (sheet_untaken file (why_of w) e)
+  pub text_untaken : (w : Refusal) → input_told file ≡ refusal w → refused_line (why_of w) ≡ text_of file
+  text_untaken w e = sym (text_refused file (why_of w) (sheet_untaken file (why_of w) e))
 
   -- one that is taken apart, its register words loaded and checked
-  module _ (s : Sheet) (lists : Lists file s) (n : Registers) (e : n ≡ fresh) (x : Checked) (says : check_says x ≡ accept_told n s.registers.now) where
-    told : check_says x ≡ accept_told fresh (register_words file)
-    told = says ∙ rw (e, lists.registers)
+  module _ (s : Sheet) (lists : Lists file s) (n : Registers) (e : n ≡ fresh) where
+    told : accept_told n s.registers.now ≡ accept_told fresh (register_words file)
+    told = rw (e, lists.registers)
 
-    pub text_unaccepted : (w : Refusal) → x ≡ checked.Refused w → text_of file ≡ refused_line (why_of w)
+    pub text_unaccepted : (w : Refusal) → refusal w ≡ accept_told n s.registers.now → refused_line (why_of w) ≡ text_of file
     text_unaccepted w p =
-        text_refused file (why_of w) (sheet_unaccepted file (why_of w) lists.taken (sym told ∙ ap check_says p))
+        sym (text_refused file (why_of w) (sheet_unaccepted file (why_of w) lists.taken (sym (p ∙ told))))
 
-    pub text_held : (a : Setting) → x ≡ checked.Accepted a → (g : Registers) → g ≡ handed_back (accept_told n s.registers.now) n s.registers.now
-        → picture_text g s.video.now s.cursor.now ≡ text_of file
+    pub text_held : (a : Setting) → given a ≡ accept_told n s.registers.now → (g : Registers)
+        → g ≡ handed_back (accept_told n s.registers.now) n s.registers.now → picture_text g s.video.now s.cursor.now ≡ text_of file
     text_held a p g left_is =
-        let given_is : accept_told fresh (register_words file) ≡ given a = sym told ∙ ap check_says p in
+        let given_is : accept_told fresh (register_words file) ≡ given a = sym (p ∙ told) in
         let own : g ≡ registers_of file = left_is ∙ rw (e, lists.registers, given_is) (left file) in
         rw (own, lists.video, lists.cursor) (sym (text_accepted file lists.taken a given_is))
 

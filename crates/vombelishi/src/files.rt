@@ -1,21 +1,19 @@
 // Plate files read, copied out and written.
-ghost use Rattle.std.specs.Prelude.{◌≡◌, ◌≤◌, length};
-ghost use Rattle.std.proofs.lemmas.List.Edits.{sets};
+ghost use Rattle.std.specs.Prelude.{◌≡◌, length};
 ghost use Rattle.plates.specs.Read.{copy_told, copy_leaves};
 ghost use Rattle.plates.specs.Write.{write_told, write_leaves};
 ghost use Rattle.vombelishi.specs.Code.{answer_code, stored_by, cell_by};
 ghost use Rattle.vombelishi.specs.Files.{nine_of, read_call};
 
-use crate::code::{SHORT, answered, refused};
+use crate::code::{answered, refused};
 use crate::put::store;
-use plates::{Reading, Sections, Writing};
+use plates::Sections;
 
 #[tactic(auto, unfolding(crate::specs::Files::nine_of))]
-fn put_sections(p: Sections, out: &mut [u64])
-    requires { 9 ≤ length out.old }
-    ensures { out.new ≡ sets out.old 0 (nine_of p) }
+fn numbers(p: Sections) -> [u64; 9]
+    ensures { result ≡ nine_of p }
 {
-    let numbers = [
+    [
         p.registers as u64,
         p.video as u64,
         p.cursor as u64,
@@ -25,8 +23,7 @@ fn put_sections(p: Sections, out: &mut [u64])
         u64::from(p.v),
         u64::from(p.c),
         u64::from(p.s),
-    ];
-    store(out, &numbers);
+    ]
 }
 
 // The five starts in bytes and R, V, C, S; 14, then 13 for `places`.
@@ -36,14 +33,8 @@ pub fn vom_read(file: &[u8], places: &mut [u64]) -> u64
         × (places.new ≡ stored_by (read_call file.now (length places.old)) places.old) }
 {
     match plates::read(file) {
-        Reading::Refused(why) => refused(why),
-        Reading::Plate(p) => {
-            if places.len() < 9 {
-                return SHORT;
-            }
-            put_sections(p, places);
-            0
-        }
+        Err(why) => refused(why),
+        Ok(p) => answered(store(places, &numbers(p))),
     }
 }
 
@@ -72,8 +63,8 @@ pub fn vom_write(
         size.old) }
 {
     match plates::write(registers, video, cursor, sound, out) {
-        Writing::Refused(why) => refused(why),
-        Writing::Bytes(n) => {
+        Err(why) => refused(why),
+        Ok(n) => {
             *size = n as u64;
             0
         }

@@ -1,48 +1,45 @@
 // Register words loaded into a record that C holds: loaded and checked by the register library, then each stored in both slices.
-ghost use Rattle.std.specs.Prelude.{◌≡◌, ◌≤◌, length};
-ghost use Rattle.refusals.specs.Refusals.{answer_says};
-ghost use Rattle.registers.specs.Check.{check_says};
+ghost use Rattle.std.specs.Prelude.{◌≡◌, ◌≤◌, length, OnOk};
+ghost use Rattle.refusals.specs.Refusals.{says};
 ghost use Rattle.vombelishi.specs.Code.{answer_code, stored_by};
 ghost use Rattle.vombelishi.specs.Load.{value_stored, flag_stored, values_stored, flags_stored};
 ghost use Rattle.vombelishi.specs.Load.{accepted_told, accept_call, accept_values_leaves, accept_written_leaves};
 ghost use Rattle.vombelishi.specs.Load.{accept_sound_call, sound_values_leaves, sound_written_leaves, word_call, word_values_leaves, word_written_leaves};
 
-use crate::code::{SHORT, refused};
+use crate::code::refused;
 use crate::record::record;
-use crate::settings::{NUMBERS, put_setting};
-use refusals::Answer;
-use registers::check::Checked;
+use crate::put::store;
+use crate::settings::numbers;
+use refusals::Refusal;
+use registers::setting::Setting;
 
 // The setting of the record that a list leaves.
-#[tactic(auto, unfolding(crate::specs::Load::accepted_told))]
-fn judge_list(values: &[u32], written: &[u8], words: &[u32]) -> Checked
-    ensures { check_says result ≡ accepted_told values.now written.now words.now }
+#[tactic(auto, using(refusals::proofs::Told::handed_on), unfolding(crate::specs::Load::accepted_told))]
+fn judge_list(values: &[u32], written: &[u8], words: &[u32]) -> Result<Setting, Refusal>
+    ensures told { says result ≡ accepted_told values.now written.now words.now }
+    ensures long { OnOk result ((64 ≤ length values.now) × (64 ≤ length written.now)) }
 {
-    match record(values, written) {
-        Err(why) => Checked::Refused(why),
-        Ok(g) => g.load_and_check(words).checked,
-    }
+    let mut g = record(values, written)?;
+    g.load_and_check(words)
 }
 
 // Whether the record that a list leaves can be played.
-#[tactic(auto, unfolding(crate::specs::Load::accept_sound_call))]
-fn judge_sound_list(values: &[u32], written: &[u8], words: &[u32]) -> Answer
-    ensures { answer_says result ≡ accept_sound_call values.now written.now words.now }
+#[tactic(auto, using(refusals::proofs::Told::handed_on), unfolding(crate::specs::Load::accept_sound_call))]
+fn judge_sound_list(values: &[u32], written: &[u8], words: &[u32]) -> Result<(), Refusal>
+    ensures told { says result ≡ accept_sound_call values.now written.now words.now }
+    ensures long { OnOk result ((64 ≤ length values.now) × (64 ≤ length written.now)) }
 {
-    match record(values, written) {
-        Err(why) => Answer::Refused(why),
-        Ok(g) => g.load_and_check_sound(words).answer,
-    }
+    let mut g = record(values, written)?;
+    g.load_and_check_sound(words)
 }
 
-#[tactic(auto, unfolding(crate::specs::Load::word_call))]
-fn judge_word(values: &[u32], written: &[u8], word: u32) -> Answer
-    ensures { answer_says result ≡ word_call values.now written.now word }
+#[tactic(auto, using(refusals::proofs::Told::handed_on), unfolding(crate::specs::Load::word_call))]
+fn judge_word(values: &[u32], written: &[u8], word: u32) -> Result<(), Refusal>
+    ensures told { says result ≡ word_call values.now written.now word }
+    ensures long { OnOk result ((64 ≤ length values.now) × (64 ≤ length written.now)) }
 {
-    match record(values, written) {
-        Err(why) => Answer::Refused(why),
-        Ok(g) => g.load_word(word).answer,
-    }
+    let mut g = record(values, written)?;
+    g.load_word(word)
 }
 
 fn store_word(values: &mut [u32], written: &mut [u8], word: u32)
@@ -84,15 +81,14 @@ pub fn vom_load_and_check(
         setting.old) }
 {
     match judge_list(values, written, words) {
-        Checked::Refused(why) => refused(why),
-        Checked::Accepted(s) => {
-            if setting.len() < NUMBERS {
-                return SHORT;
+        Err(why) => refused(why),
+        Ok(s) => match store(setting, &numbers(s)) {
+            Err(why) => refused(why),
+            Ok(()) => {
+                store_list(values, written, words);
+                0
             }
-            store_list(values, written, words);
-            put_setting(s, setting);
-            0
-        }
+        },
     }
 }
 
@@ -104,8 +100,8 @@ pub fn vom_load_and_check_sound(values: &mut [u32], written: &mut [u8], words: &
         × (written.new ≡ sound_written_leaves values.old written.old words.now) }
 {
     match judge_sound_list(values, written, words) {
-        Answer::Refused(why) => refused(why),
-        Answer::Done => {
+        Err(why) => refused(why),
+        Ok(()) => {
             store_list(values, written, words);
             0
         }
@@ -120,8 +116,8 @@ pub fn vom_load_word(values: &mut [u32], written: &mut [u8], word: u32) -> u64
         × (written.new ≡ word_written_leaves values.old written.old word) }
 {
     match judge_word(values, written, word) {
-        Answer::Refused(why) => refused(why),
-        Answer::Done => {
+        Err(why) => refused(why),
+        Ok(()) => {
             store_word(values, written, word);
             0
         }

@@ -1,11 +1,18 @@
 // Numbers of an answer stored in the slice that is lent for them.
-ghost use Rattle.std.specs.Prelude.{◌≡◌, ◌≤◌, length};
-ghost use Rattle.std.proofs.lemmas.List.Edits.{sets};
+ghost use Rattle.std.specs.Prelude.{◌≡◌, [], ◌∷◌, ltb, length};
+ghost use Rattle.refusals.specs.Table.{row, judged, given};
+ghost use Rattle.refusals.specs.Refusals.{says};
+ghost use Rattle.vombelishi.specs.Code.{with_room, stored_by};
 
-#[tactic(auto, using(crate::proofs::Stored::sets_front))]
-pub fn store<T: Copy>(out: &mut [T], values: &[T])
-    requires { length values.now ≤ length out.old }
-    ensures { out.new ≡ sets out.old 0 values.now }
+use refusals::{Refusal, refuse_if};
+
+// All of them from the first place on; 13 where there is no room for them.
+#[tactic(auto, using(refusals::proofs::Told::handed_on, crate::proofs::Stored::sets_front))]
+pub fn store<T: Copy>(out: &mut [T], values: &[T]) -> Result<(), Refusal>
+    ensures told { says result ≡ judged (row 13 (ltb (length out.old) (length values.now)) 0 ∷ []) tt }
+    ensures left { out.new ≡ stored_by (with_room (length values.now) (length out.old) (given values.now)) out.old }
 {
+    refuse_if(out.len() < values.len(), Refusal::Short)?;
     out[..values.len()].copy_from_slice(values);
+    Ok(())
 }

@@ -1,24 +1,19 @@
 // The numbers of an accepted setting, and records judged for sound.
-ghost use Rattle.std.specs.Prelude.{◌≡◌, ◌≤◌, length};
-ghost use Rattle.std.proofs.lemmas.List.Edits.{sets};
+ghost use Rattle.std.specs.Prelude.{◌≡◌};
 ghost use Rattle.registers.specs.inner.Accepted.{Accepted};
 ghost use Rattle.vombelishi.specs.Code.{answer_code};
 ghost use Rattle.vombelishi.specs.Settings.{numbers_of, check_sound_call};
 
 use crate::code::{answered, refused};
-use crate::put::store;
 use crate::record::record;
 use registers::setting::Setting;
 
-// How many numbers a setting has.
-pub(crate) const NUMBERS: usize = 21;
-
 #[tactic(auto, using(registers::proofs::Words::video_most, registers::proofs::Words::cursor_most), unfolding(crate::specs::Settings::numbers_of))]
-pub(crate) fn put_setting(s: Setting, out: &mut [u32])
-    requires { (21 ≤ length out.old) × Accepted s }
-    ensures { out.new ≡ sets out.old 0 (numbers_of s) }
+pub(crate) fn numbers(s: Setting) -> [u32; 21]
+    requires { Accepted s }
+    ensures { result ≡ numbers_of s }
 {
-    let numbers = [
+    [
         u32::from(s.n.0),
         u32::from(s.hs.0),
         u32::from(s.bs.0),
@@ -40,8 +35,7 @@ pub(crate) fn put_setting(s: Setting, out: &mut [u32])
         u32::from(s.cursor),
         s.video_words() as u32,
         s.cursor_words() as u32,
-    ];
-    store(out, &numbers);
+    ]
 }
 
 // Whether the record can be played; 13 for slices shorter than 64, then 3, 10.

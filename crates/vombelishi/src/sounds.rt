@@ -3,11 +3,9 @@ ghost use Rattle.std.specs.Prelude.{◌≡◌, length};
 ghost use Rattle.vombelishi.specs.Code.{answer_code, stored_by};
 ghost use Rattle.vombelishi.specs.Sounds.{sound_call, sound_leaves, counter_leaves, pair_call};
 
-use crate::code::{SHORT, refused};
+use crate::code::{answered, refused};
 use crate::put::store;
 use crate::record::record;
-use refusals::Answer;
-use sound::Pairing;
 
 // 8 values for each word. The cell holds the counter before the first byte, and afterwards that after the last.
 // 13 for slices shorter than 64, then 3, 10, 13 for `out`.
@@ -27,17 +25,7 @@ pub fn vom_sound(
 {
     match record(values, written) {
         Err(why) => refused(why),
-        Ok(g) => {
-            let played = sound::play(g, words, *counter, out);
-            let answer = played.answer;
-            match answer {
-                Answer::Refused(why) => refused(why),
-                Answer::Done => {
-                    *counter = played.counter;
-                    0
-                }
-            }
-        },
+        Ok(g) => answered(sound::play(g, words, counter, out)),
     }
 }
 
@@ -48,13 +36,7 @@ pub fn vom_sound_pair(byte: u8, stereo: u8, pair: &mut [i16]) -> u64
         × (pair.new ≡ stored_by (pair_call byte stereo (length pair.old)) pair.old) }
 {
     match sound::pair(byte, stereo) {
-        Pairing::Refused(why) => refused(why),
-        Pairing::Given(sides) => {
-            if pair.len() < 2 {
-                return SHORT;
-            }
-            store(pair, &[sides.left, sides.right]);
-            0
-        }
+        Err(why) => refused(why),
+        Ok(sides) => answered(store(pair, &[sides.left, sides.right])),
     }
 }

@@ -6,11 +6,11 @@ use Rattle.vombelishi.proofs.record.record.Goals as goal
 pub loop-k-preserved : goal.loop-k-preserved
 loop-k-preserved c = flag_more c.loop-k.flag-items c.in-Some-Some.bytes.now c.loop-k.k (omega arith) c.loop-k.invariant
 
-pub returns : goal.returns
-returns c =
+pub returns-clause-told : goal.returns-clause-told
+returns-clause-told c =
     let chunks = c.in-Some-Some in
     rw c.of_slots.ensures
     (record_made _ _ _ _ _ chunks.ensures.cases chunks.ensures'.cases c.loop-k-test.array_long (λ k h. c.loop-k.invariant k (omega arith)))
 
-pub returns-in_default : goal.returns-in_default
-returns-in_default c = short_written _ _ c.in_default.ensures'.cases
+pub returns-in_default-clause-told : goal.returns-in_default-clause-told
+returns-in_default-clause-told c = short_written _ _ c.in_default.ensures'.cases
