@@ -1,24 +1,24 @@
-// The steps over a queue that is lent: each leaves in the record what the step by value leaves, and answers its reply.
+// The steps over a queue that is lent: each runs the step by value on the record, and stores the record that it leaves.
 ghost use Rattle.std.specs.Prelude.{ℕ, ◌≡◌};
 ghost use Rattle.queues.specs.Steps.{load_of, read_of, vertical_of, ask_of};
 
 use crate::{Queue, Reply, Step};
 
-// Here and in `read` the work is done in place: through `thin` the bench's queue takes 7,528,577 instructions, and bench/counts.txt had 6,930,569.
-#[tactic(auto, using(crate::proofs::Fits::fitted_fit), unfolding(crate::specs::Steps::load_of))]
+// Written out here and in `read`: through `thin` the bench's queue takes 7,528,577 instructions, and bench/counts.txt had 6,930,569.
 pub fn load(q: &mut Queue, word: u32) -> Reply
     ensures { (q.new ≡ (load_of q.old word).queue) × (result ≡ (load_of q.old word).reply) }
 {
-    q.make_fit();
-    q.load_fit(word)
+    let step = q.load(word);
+    *q = step.queue;
+    step.reply
 }
 
-#[tactic(auto, using(crate::proofs::Fits::fitted_fit), unfolding(crate::specs::Steps::read_of))]
 pub fn read(q: &mut Queue, control: u32) -> Reply
     ensures { (q.new ≡ (read_of q.old control).queue) × (result ≡ (read_of q.old control).reply) }
 {
-    q.make_fit();
-    q.read_fit(control)
+    let step = q.read(control);
+    *q = step.queue;
+    step.reply
 }
 
 pub fn vertical_sync(q: &mut Queue, raster: u32) -> Reply
@@ -33,7 +33,7 @@ pub fn ask(q: &mut Queue, words: u32) -> Reply
     thin(q, words, Queue::ask)
 }
 
-// A step by value over a lent queue, any step and whatever it means: the queue that the step leaves is stored, and its reply is answered.
+// What the four have in common, of any step and whatever it means: the queue that the step leaves is stored, and its reply is answered.
 fn thin<F: FnOnce(Queue, u32) -> Step>(q: &mut Queue, n: u32, step: F) -> Reply
     ghost means: { Queue → ℕ → Step }
     requires called { F.pre step q.old n }

@@ -1,13 +1,26 @@
-// The steps by value, and what they are made of. Each first replaces a record that is not fit by a fresh one of its kind, then does its work on
-// that one.
+// The steps by value. Each first replaces a record that is not fit by a fresh one of its kind, then does its work on that one.
 ghost use Rattle.std.specs.Prelude.{◌≡◌, ◌<◌};
 ghost use Rattle.queues.specs.Queue.{first_coming, fresh_of, fitted_of, Fit, front_byte};
-ghost use Rattle.queues.specs.Steps.{step_of, done, load_fit, read_fit, load_of, read_of, emptied_of, vertical_of, ask_of, horizontal_of, ends_of};
+ghost use Rattle.queues.specs.Steps.{step_of, load_fit, read_fit, load_of, read_of, emptied_of, vertical_of, ask_of, horizontal_of, ends_of};
 
 use crate::syncs::{cursor_ask, video_ask};
-use crate::{Kind, Queue, Reply, Ring, Step, lent};
+use crate::{Kind, Queue, Reply, Ring, Step};
 use refusals::Refusal;
 use registers::record::Registers;
+
+// The answer of a step that leaves a queue: its count, and whether it asks.
+fn answered(queue: Queue, number: u32, byte: u16) -> Step
+    ensures { result ≡ step_of queue number byte }
+{
+    let ring = queue.ring;
+    let reply = Reply {
+        count: ring.count,
+        number,
+        byte,
+        asks: ring.asks(),
+    };
+    Step { queue, reply }
+}
 
 // Sound asks for four words when fresh.
 fn first_coming(kind: u16) -> u32
@@ -38,117 +51,101 @@ impl Queue {
         }
     }
 
-    // One that is not fit is replaced by a fresh one.
     #[tactic(auto, unfolding(crate::specs::Queue::fitted_of))]
-    pub(crate) fn make_fit(&mut self)
-        ensures { self.new ≡ fitted_of self.old }
+    fn fitted(self) -> Queue
+        ensures { result ≡ fitted_of self }
     {
-        if !self.ring.is_fit() {
-            *self = Queue::fresh(self.ring.kind);
+        let ring = self.ring;
+        if ring.is_fit() {
+            return self;
         }
-    }
-
-    // What is told of the queue: its count, and whether it asks.
-    fn reply(&self, number: u32, byte: u16) -> Reply
-        ensures { result ≡ (step_of self.now number byte).reply }
-    {
-        Reply {
-            count: self.ring.count,
-            number,
-            byte,
-            asks: self.ring.asks(),
-        }
-    }
-
-    fn answered(self) -> Step
-        ensures { result ≡ done self 0 }
-    {
-        let reply = self.reply(0, 0);
-        Step { queue: self, reply }
+        Queue::fresh(ring.kind)
     }
 
     #[tactic(auto, unfolding(crate::specs::Steps::load_fit))]
-    pub(crate) fn load_fit(&mut self, word: u32) -> Reply
-        requires { Fit self.old.ring }
-        ensures { (self.new ≡ (load_fit self.old word).queue) × (result ≡ (load_fit self.old word).reply) }
+    fn load_fit(mut self, word: u32) -> Step
+        requires { Fit self.ring }
+        ensures { result ≡ load_fit self word }
     {
         let ring = self.ring;
         if ring.is_full() {
-            return self.reply(Refusal::Full.number(), 0);
+            return answered(self, Refusal::Full.number(), 0);
         }
         self.words[ring.behind() as usize] = word;
         self.ring = ring.put();
-        self.reply(0, 0)
+        answered(self, 0, 0)
     }
 
     // One word behind those held: 16 where the queue is full, or its count at its largest.
-    pub fn load(mut self, word: u32) -> Step
+    #[tactic(auto, using(crate::proofs::Fits::fitted_fit), unfolding(crate::specs::Steps::load_of))]
+    pub fn load(self, word: u32) -> Step
         ensures { result ≡ load_of self word }
     {
-        let reply = lent::load(&mut self, word);
-        Step { queue: self, reply }
+        self.fitted().load_fit(word)
     }
 
     // The next byte of the word at the place.
-    fn front(&self) -> u16
-        requires { Fit self.now.ring }
-        ensures { result ≡ front_byte self.now }
+    fn front(self) -> u16
+        requires { Fit self.ring }
+        ensures { result ≡ front_byte self }
     {
-        let word = self.words[self.ring.place as usize];
-        ((word >> (8 * u32::from(self.ring.taken))) % 0x100) as u16
+        let ring = self.ring;
+        let word = self.words[ring.place as usize];
+        ((word >> (8 * u32::from(ring.taken))) % 0x100) as u16
     }
 
     #[tactic(auto, unfolding(crate::specs::Steps::read_fit))]
-    pub(crate) fn read_fit(&mut self, control: u32) -> Reply
-        requires { Fit self.old.ring }
-        ensures { (self.new ≡ (read_fit self.old control).queue) × (result ≡ (read_fit self.old control).reply) }
+    fn read_fit(mut self, control: u32) -> Step
+        requires { Fit self.ring }
+        ensures { result ≡ read_fit self control }
     {
-        if self.ring.is_empty() {
-            return self.reply(Refusal::Empty.number(), 0);
+        let ring = self.ring;
+        if ring.is_empty() {
+            return answered(self, Refusal::Empty.number(), 0);
         }
         let byte = self.front();
-        self.ring = self.ring.byte_taken(control);
-        self.reply(0, byte)
+        self.ring = ring.byte_taken(control);
+        answered(self, 0, byte)
     }
 
     // The next byte out: 17 where the queue is empty. Bits 5-4 of the control register's data say where more is asked for.
-    pub fn read(mut self, control: u32) -> Step
+    #[tactic(auto, using(crate::proofs::Fits::fitted_fit), unfolding(crate::specs::Steps::read_of))]
+    pub fn read(self, control: u32) -> Step
         ensures { result ≡ read_of self control }
     {
-        let reply = lent::read(&mut self, control);
-        Step { queue: self, reply }
+        self.fitted().read_fit(control)
     }
 
     // A video or cursor queue with nothing in it and nothing to come; sound as it is.
-    fn empty(&mut self)
-        ensures { self.new ≡ emptied_of self.old }
+    fn emptied(self) -> Queue
+        ensures { result ≡ emptied_of self }
     {
         match Kind::from(self.ring.kind) {
-            Kind::Sound => {}
-            Kind::Video | Kind::Cursor => *self = Queue::fresh(self.ring.kind),
+            Kind::Sound => self,
+            Kind::Video | Kind::Cursor => Queue::fresh(self.ring.kind),
         }
     }
 
     // Vertical sync starts with raster 0, and there empties all but sound; on other rasters it does nothing.
     #[tactic(auto, unfolding(crate::specs::Steps::vertical_of))]
-    pub fn vertical_sync(mut self, raster: u32) -> Step
+    pub fn vertical_sync(self, raster: u32) -> Step
         ensures { result ≡ vertical_of self raster }
     {
-        self.make_fit();
+        let queue = self.fitted();
         if raster == 0 {
-            self.empty();
+            return answered(queue.emptied(), 0, 0);
         }
-        self.answered()
+        answered(queue, 0, 0)
     }
 
     // Words asked for are still to come, up to the depth.
     #[tactic(auto, unfolding(crate::specs::Steps::ask_of))]
-    pub fn ask(mut self, words: u32) -> Step
+    pub fn ask(self, words: u32) -> Step
         ensures { result ≡ ask_of self words }
     {
-        self.make_fit();
-        self.ring = self.ring.asked(words);
-        self.answered()
+        let mut queue = self.fitted();
+        queue.ring = queue.ring.asked(words);
+        answered(queue, 0, 0)
     }
 
     // Horizontal sync of a raster: what it asks of this queue.
