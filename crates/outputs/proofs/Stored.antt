@@ -1,123 +1,140 @@
 -- A run stored part by part, and a line stored run by run: cells of one code only lengthen the run, and the rest is a line again.
-use Prim.Native.Nat.{ℕ, zero, suc, ◌+◌, ◌-◌, ◌*◌, ◌<◌, ◌≤◌}
+use Prim.Native.Nat.{ℕ, zero, suc, ◌+◌, ◌-◌, ◌*◌, ◌/◌, ◌<◌, ◌≤◌}
 use mathlib.Core.Path.{◌≡◌, refl, sym, ◌∙◌, ap}
-use mathlib.Core.Bool.{true}
+use mathlib.Core.Bool.{not}
 use mathlib.Core.List.{List, [], ◌∷◌, ◌++◌, append_assoc}
 use mathlib.Core.Logic.{inl, inr}
-use native.Mathlib.Nat.{add-suc}
+use native.Mathlib.Nat.{add-zero, add-suc, suc-add}
 use native.Mathlib.Numerals.{add-one}
 use native.Mathlib.Omega.{arith}
-use lib.ListN.{length, drop, set, length-append, length-set}
-use lib.Dec.{eqb, ltb}
-use lib.Seq.{sets, drop-cons, drop-length, length-sets}
-use borrow.Author.Tests.{lt-ltb, le-ltb}
+use lib.Dec.{eqb}
+use lib.ListN.{length, get_or, take, drop, set, length-append, length-set, length-drop}
+use lib.Seq.{sets, drop-cons, drop-drop, get_or-take, length-sets}
+use Rattle.std.proofs.lemmas.List.{get_or-drop}
+use borrow.Author.Tests.{eq-eqb, ne_eqb}
 use Rattle.buffers.specs.Pick.{pick}
 use Rattle.buffers.specs.Put.{Put}
 use Rattle.buffers.proofs.Sets.{sets_append}
 use Rattle.buffers.proofs.Split.{lt_or_le}
-use Rattle.buffers.proofs.Tests.{and_split}
+use Rattle.colours.specs.Cells.{cell_code}
 use Rattle.outputs.specs.Decimal.{places, decimal}
 use Rattle.outputs.specs.Runs.{run, runs_from, line_of}
-use Rattle.outputs.specs.inner.Room.{code_at, same_from, rest_of, Along, Ends, Under}
-use Rattle.outputs.proofs.Lengths.{length_decimal, run_fits}
+use Rattle.outputs.specs.inner.Room.{code_at, rest_of, Same, Under}
+use Rattle.outputs.proofs.Lengths.{length_decimal}
 
 pub run_stored : (o p q : List ℕ) (at x code n : ℕ) → x ≡ at + places code → p ≡ sets o at (decimal code)
     → q ≡ sets (set p x 120) (x + 1) (decimal n) → q ≡ sets o at (run code n)
 unfolding run
 run_stored o p q at x code n e ep eq = rw (sets_append, length_decimal, ← e, ← ep) (rw add-one at eq)
 
--- a cell of the same code lengthens the run
-same_cell : (cells : List ℕ) (code n i : ℕ) → i < length cells → eqb (code_at cells i) code ≡ true
-    → runs_from code n (drop i cells) ≡ runs_from code (suc n) (drop (suc i) cells)
+-- cells that are left behind others of a code
+module _ (cells left : List ℕ) (code : ℕ) (most : length left ≤ length cells) (is : left ≡ drop (length cells - length left) cells)
+    (same : (k : ℕ) → k < length cells - length left → code_at cells k ≡ code) where
+  abbrev passed : ℕ
+  passed = length cells - length left
+
+  behind : (k : ℕ) → code_at left k ≡ code_at cells (passed + k)
+  behind k = ap (λ (l : List ℕ). code_at l k) is ∙ ap (λ (n : ℕ). n / 8192) (get_or-drop passed cells k 0)
+
+  -- the first r of them have the code too
+  further : (r : ℕ) → ((k : ℕ) → k < r → code_at left k ≡ code) → (k : ℕ) → k < passed + r → code_at cells k ≡ code
+  further r each k h = elim (lt_or_le k passed) [
+    | inl t ↦ same k t
+    | inr t ↦
+        let e : passed + (k - passed) ≡ k = omega arith in
+        ap (code_at cells) (sym e) ∙ (sym (behind (k - passed)) ∙ each (k - passed) (omega arith))
+  ]
+
+  pub same_further : (r : ℕ) → Same left code r → Same cells code (passed + r)
+  same_further r e =
+      record {
+        high = omega (arith, e.high);
+        same = further r e.same;
+        other = λ h q. e.other (omega arith) (behind r ∙ q);
+      }
+
+  -- eight of them
+  module _ (eight others : List ℕ) (first : eight ≡ take 8 left) (next : others ≡ drop 8 left) (long : length others + 8 ≡ length left)
+      (each : (k : ℕ) → k < 8 → get_or eight k 0 / 8192 ≡ code) where
+    pub eight_more : (length others ≤ length cells) × (others ≡ drop (length cells - length others) cells)
+        × ((k : ℕ) → k < length cells - length others → code_at cells k ≡ code)
+    eight_more =
+        let n : length cells - length others ≡ passed + 8 = omega arith in (
+          omega arith,
+          next ∙ ap (drop 8) is ∙ drop-drop 8 passed cells ∙ rw n,
+          λ k h. further 8 (λ j t. ap (λ (c : ℕ). c / 8192) (sym (ap (λ (l : List ℕ). get_or l j 0) first ∙ get_or-take 8 left j 0 t)) ∙ each j t) k (omega arith),
+        )
+
+-- cells of the same code lengthen the run
+same_run : (cells : List ℕ) (code n r : ℕ) → r ≤ length cells → ((k : ℕ) → k < r → code_at cells k ≡ code)
+    → runs_from code n cells ≡ runs_from code (n + r) (drop r cells)
 unfolding runs_from
-same_cell cells code n i h e = rw (drop-cons cells i 0 h, e)
+same_run cells code n zero h each = rw add-zero
+same_run [] code n (suc r) h each = absurd (omega arith)
+same_run (x ∷ xs) code n (suc r) h each =
+    rw (eq-eqb (cell_code x) code (each 0 (omega arith)))
+    (same_run xs code (suc n) r (omega arith) (λ k i. each (suc k) (omega arith)) ∙ rw (suc-add n r, add-suc n r))
 
--- so do those of place i and of j places after it
-same_cells : (cells : List ℕ) (code n i j : ℕ) → i + j < length cells → same_from code cells i j ≡ true
-    → runs_from code n (drop i cells) ≡ runs_from code (n + suc j) (drop (i + suc j) cells)
-same_cells cells code n i zero h e = same_cell cells code n i (omega arith) e ∙ rw (add-one n, add-one i)
-same_cells cells code n i (suc j) h e =
-    let both = and_split (same_from code cells i j) (eqb (code_at cells (i + suc j)) code) e in
-    same_cells cells code n i j (omega arith) both.0
-    ∙ (same_cell cells code (n + suc j) (i + suc j) (omega arith) both.1 ∙ rw (add-suc n (suc j), add-suc i (suc j)))
+-- what follows a run: the newline, or a space and the line of the cells after it
+followed : (code n : ℕ) (left : List ℕ) → (0 < length left → code_at left 0 ≡ code → ⊥)
+    → runs_from code n left ++ (10 ∷ []) ≡ run code n ++ (pick (not (eqb (length left) 0)) 32 10 ∷ rest_of left)
+unfolding runs_from rest_of line_of
+followed code n [] other = refl
+followed code n (y ∷ ys) other =
+    rw (ne_eqb (cell_code y) code (other (omega arith)), ne_eqb (length (y ∷ ys)) 0 (λ q. omega arith), append_assoc)
 
--- a run followed to its second place, and over further cells
-pub along_none : (cells : List ℕ) (code from : ℕ) → from ≤ length cells → Along cells code from from
-along_none cells code from h =
-    let z : from - from ≡ 0 = omega arith in
-    record { low = omega arith; high = h; same = rw z }
+-- a run has a cell at least
+pub some_run : (cells : List ℕ) (r : ℕ) → 1 ≤ length cells → Same cells (code_at cells 0) r → 1 ≤ r
+some_run cells zero h e = absurd (e.other (omega arith) refl)
+some_run cells (suc r) h e = omega arith
 
-pub along_more : (cells : List ℕ) (code from i j : ℕ) → i + j < length cells → same_from code cells i j ≡ true
-    → Along cells code from i → Along cells code from (i + suc j)
-along_more cells code from i j h e a =
-    let q : 1 + (i + suc j - from) ≡ 1 + (i - from) + suc j = omega (arith, a.low) in
-    record {
-      low = omega (arith, a.low);
-      high = omega arith;
-      same = a.same ∙ (same_cells cells code (1 + (i - from)) i j h e ∙ rw q);
-    }
-
--- the rest of a line begins with a run, and what follows it
-module _ (cells : List ℕ) (i r : ℕ) (e : Ends cells i r) where
-  abbrev first : List ℕ
-  first = run (code_at cells i) (r - i)
-
-  -- a line of a first cell and others
-  begun : line_of (drop i cells) ≡ runs_from (code_at cells i) (r - i) (drop r cells) ++ (10 ∷ [])
-  unfolding line_of
-  begun =
-      let q : 1 + (r - (i + 1)) ≡ r - i = omega (arith, e.along.low) in
-      rw (drop-cons cells i 0 (omega (arith, e.along.low, e.along.high)), ← add-one i, e.along.same, q)
-
-  more_follows : r < length cells → line_of (drop i cells) ≡ first ++ (32 ∷ line_of (drop r cells))
-  unfolding line_of runs_from
-  more_follows h = begun ∙ rw (drop-cons cells r 0 h, e.other h, append_assoc)
-
-  none_follows : r ≡ length cells → line_of (drop i cells) ≡ first ++ (10 ∷ [])
-  unfolding runs_from
-  none_follows h = begun ∙ rw (h, drop-length)
-
-  pub rest_parts : rest_of cells i ≡ first ++ (pick (ltb r (length cells)) 32 10 ∷ rest_of cells r)
-  unfolding rest_of
-  rest_parts = rw (lt-ltb i (length cells) (omega (arith, e.along.low, e.along.high))) (elim (lt_or_le r (length cells)) [
-    | inl h ↦ rw (lt-ltb r (length cells) h) (more_follows h)
-    | inr h ↦ rw (le-ltb r (length cells) h) (none_follows (omega (arith, e.along.high)))
-  ])
+first_run : (cells : List ℕ) (r : ℕ) → 1 ≤ length cells → Same cells (code_at cells 0) r
+    → rest_of cells ≡ run (code_at cells 0) r ++ (pick (not (eqb (length (drop r cells)) 0)) 32 10 ∷ rest_of (drop r cells))
+unfolding rest_of line_of
+first_run [] r some e = absurd (omega arith)
+first_run (x ∷ xs) zero some e = absurd (e.other (omega arith) refl)
+first_run (x ∷ xs) (suc m) some e =
+    let one : 1 + m ≡ suc m = omega arith in
+    let same = same_run xs (cell_code x) 1 m (omega (arith, e.high)) (λ k h. e.same (suc k) (omega arith)) in
+    rw (same, one) (followed (cell_code x) (suc m) (drop m xs) other)
+  where
+    other : 0 < length (drop m xs) → code_at (drop m xs) 0 ≡ cell_code x → ⊥
+    other h q =
+        let t : m < length xs = omega (arith, length-drop m xs) in
+        e.other (omega arith) (rw (drop-cons xs m 0 t) at q)
 
 -- a line as long as nothing of it is stored
-pub line_begins : (old cells : List ℕ) (at : ℕ) → 1 ≤ length cells → Under old old cells at at 0
+pub line_begins : (old cells : List ℕ) (at : ℕ) → 1 ≤ length cells → Under old old cells at at cells
 unfolding rest_of
-line_begins old cells at h =
-    let t = lt-ltb 0 (length cells) h in
-    record { most = omega arith; fits = omega arith; len = refl; same = rw t; long = rw t }
+line_begins old [] at h = absurd (omega arith)
+line_begins old (x ∷ xs) at h = record { most = omega arith; fits = omega arith; len = refl; same = refl; long = refl }
 
--- one run more, of place i up to place r, and its mark
-module _ (old mid cells : List ℕ) (at to i r : ℕ) (e : Ends cells i r) (u : Under old mid cells at to i) (small : code_at cells i < 8) where
+-- one run more of the cells that are left, and its mark
+module _ (old mid cells left : List ℕ) (at to r : ℕ) (some : 1 ≤ length left) (e : Same left (code_at left 0) r)
+    (u : Under old mid cells at to left) where
   abbrev this : List ℕ
-  this = run (code_at cells i) (r - i)
+  this = run (code_at left 0) r
 
-  pub run_within : to + length this + 1 ≤ at + 4 * r
-  run_within = omega (arith, run_fits (code_at cells i) (r - i) small (omega (arith, e.along.low)), u.fits, e.along.low)
-
-  pub next_run : (new : List ℕ) (x : ℕ) → new ≡ sets mid to this → x ≡ to + length this
-      → Under old (set new x (pick (ltb r (length cells)) 32 10)) cells at (x + 1) r
-  next_run new x stored after =
+  pub next_run : (new : List ℕ) (x : ℕ) → new ≡ sets mid to this → x ≡ to + length this → x < to + 4 * r
+      → Under old (set new x (pick (not (eqb (length (drop r left)) 0)) 32 10)) cells at (x + 1) (drop r left)
+  next_run new x stored after few =
+      let n = length-drop r left in
       record {
-        most = e.along.high;
-        fits = omega (arith, run_within, after);
+        most = omega (arith, n, u.most);
+        fits = omega (arith, n, few, e.high, u.fits);
         len = simp length-set (ap length stored ∙ (length-sets mid to this ∙ u.len));
-        same = sym (ap (sets mid to) (rest_parts cells i r e) ∙ rw (sets_append, ← after, ← stored, add-one)) ∙ u.same;
-        long = sym (ap (λ (l : List ℕ). to + length l) (rest_parts cells i r e) ∙ simp length-append (omega (arith, after))) ∙ u.long;
+        same = sym (ap (sets mid to) (first_run left r some e) ∙ rw (sets_append, ← after, ← stored, add-one)) ∙ u.same;
+        long = sym (ap (λ (l : List ℕ). to + length l) (first_run left r some e) ∙ simp length-append (omega (arith, after))) ∙ u.long;
       }
 
 -- all of a line is stored
-pub line_ends : {old new : List ℕ} {at to : ℕ} (cells : List ℕ) (i : ℕ) → length cells ≤ i → at + 4 * length cells ≤ length old
-    → Under old new cells at to i → Put old new at (line_of cells) to
+pub line_ends : {old new : List ℕ} {at to : ℕ} (cells left : List ℕ) → length left ≡ 0 → at + 4 * length cells ≤ length old
+    → Under old new cells at to left → Put old new at (line_of cells) to
 unfolding rest_of
-line_ends cells i h room u =
-    let t = le-ltb i (length cells) h in
+line_ends cells [] h room u =
     record {
-      stored = rw t at u.same;
-      after = let l = rw t at u.long in omega (arith, l);
-      inside = omega (arith, u.fits, u.most);
+      stored = u.same;
+      after = let l = u.long in omega (arith, l);
+      inside = omega (arith, u.fits);
     }
+line_ends cells (x ∷ xs) h room u = absurd (omega arith)

@@ -1,63 +1,52 @@
 // A raster's line of runs in lent memory.
-ghost use Rattle.std.specs.Prelude.{◌≡◌, ◌+◌, ◌*◌, ◌<◌, ◌≤◌, length};
+ghost use Rattle.std.specs.Prelude.{◌≡◌, ◌+◌, ◌*◌, ◌/◌, ◌<◌, ◌≤◌, EachIndex, IsTrue, length, slice_index};
 ghost use Rattle.std.proofs.lemmas.List.Edits.{sets};
 ghost use Rattle.buffers.specs.Pick.{pick};
 ghost use Rattle.outputs.specs.Runs.{run, line_of};
-ghost use Rattle.outputs.specs.inner.Room.{same_from, Along, Ends};
+ghost use Rattle.outputs.specs.inner.Room.{Same};
 ghost use Rattle.buffers.specs.Put.{Put};
 
 use crate::number::put_number;
 
-// Whether the eight cells from a place on have a code: tests side by side, which the compiler makes one of.
-fn same_eight(cells: &[u16], i: usize, code: u16) -> bool
-    requires { (i + 8 ≤ length cells.now) × (length cells.now ≤ 2048) }
-    ensures { result ≡ same_from code cells.now i 7 }
+// Whether eight cells have a code: tests side by side, which the compiler makes one of.
+fn all_have(eight: &[u16; 8], code: u16) -> bool
+    ensures { IsTrue result → EachIndex eight.now (λ k. slice_index eight.now k / 8192 ≡ code) }
 {
-    (cells[i] / 8192 == code)
-        & (cells[i + 1] / 8192 == code)
-        & (cells[i + 2] / 8192 == code)
-        & (cells[i + 3] / 8192 == code)
-        & (cells[i + 4] / 8192 == code)
-        & (cells[i + 5] / 8192 == code)
-        & (cells[i + 6] / 8192 == code)
-        & (cells[i + 7] / 8192 == code)
-}
-
-// As far along a run as eights of cells go.
-fn skip_eights(cells: &[u16], from: usize, code: u16) -> usize
-    requires { (from ≤ length cells.now) × (length cells.now ≤ 2048) }
-    ensures { Along cells.now code from result }
-{
-    let mut i = from;
-    while i + 8 <= cells.len() {
-        if !same_eight(cells, i, code) {
-            return i;
-        }
-        i += 8;
+    let mut same = true;
+    for cell in eight {
+        same &= *cell / 8192 == code;
     }
-    i
+    same
 }
 
-// The place after the run that begins at a place.
-fn run_end(cells: &[u16], from: usize) -> usize
-    requires { (from < length cells.now) × (length cells.now ≤ 2048) }
-    ensures { Ends cells.now from result }
+// How many cells from the first one on have a code.
+fn count_same(cells: &[u16], code: u16) -> usize
+    ensures { Same cells.now code result }
 {
-    let code = cells[from] / 8192;
-    let mut i = skip_eights(cells, from + 1, code);
-    while i < cells.len() {
-        if cells[i] / 8192 != code {
-            return i;
-        }
-        i += 1;
-    }
-    i
+    let other = cells.iter().position(|cell| *cell / 8192 != code);
+    other.unwrap_or(cells.len())
 }
 
-// One run stored from a place on; the place after it.
+// How many have the first one's: by eights as far as they go, and then one by one.
+fn run_length(cells: &[u16]) -> usize
+    requires { 1 ≤ length cells.now }
+    ensures { Same cells.now (slice_index cells.now 0 / 8192) result }
+{
+    let code = cells[0] / 8192;
+    let mut rest = cells;
+    while let Some((eight, others)) = rest.split_first_chunk::<8>() {
+        if !all_have(eight, code) {
+            break;
+        }
+        rest = others;
+    }
+    cells.len() - rest.len() + count_same(rest, code)
+}
+
+// One run stored from a place on; the place after it. Four bytes a cell are room for it and what follows it.
 fn put_run(out: &mut [u8], at: usize, code: u32, n: u32) -> usize
-    requires { at + length (run code n) ≤ length out.old }
-    ensures { (result ≡ at + length (run code n)) × (out.new ≡ sets out.old at (run code n)) }
+    requires { (code < 8) × (1 ≤ n) × (at + 4 * n ≤ length out.old) }
+    ensures { (result ≡ at + length (run code n)) × (result < at + 4 * n) × (out.new ≡ sets out.old at (run code n)) }
 {
     let x = put_number(out, at, code);
     out[x] = b'x';
@@ -77,13 +66,13 @@ pub fn put_line(out: &mut [u8], at: usize, cells: &[u16]) -> usize
     ensures { Put out.old out.new at (line_of cells.now) result }
 {
     let mut to = at;
-    let mut i = 0;
-    while i < cells.len() {
-        let end = run_end(cells, i);
-        let x = put_run(out, to, (cells[i] / 8192) as u32, (end - i) as u32);
-        out[x] = mark(end < cells.len());
+    let mut rest = cells;
+    while !rest.is_empty() {
+        let n = run_length(rest);
+        let x = put_run(out, to, u32::from(rest[0] / 8192), n as u32);
+        rest = &rest[n..];
+        out[x] = mark(!rest.is_empty());
         to = x + 1;
-        i = end;
     }
     to
 }

@@ -1,25 +1,25 @@
 -- A code, the letter x and a number, each put behind the one before.
 use Rattle.outputs.proofs.Stored.{run_stored}
-use Rattle.outputs.proofs.Lengths.{length_run}
+use Rattle.outputs.proofs.Lengths.{length_run, run_fits}
 use lib.ListN.{length-set}
 use mathlib.Core.Path.{◌∙◌}
 use native.Mathlib.Omega.{arith}
 use Rattle.outputs.proofs.line.put_run.Goals as goal
 
 pub put_number-x-requires : goal.put_number-x-requires
-put_number-x-requires c = omega (arith, c.requires, length_run c.args.code c.args.n)
+put_number-x-requires c = omega (arith, c.requires.2, run_fits c.args.code c.args.n c.requires.0 c.requires.1, length_run c.args.code c.args.n)
 
 pub bounds-out-x : goal.bounds-out-x
 bounds-out-x c =
-    omega (arith, c.requires, length_run c.args.code c.args.n, c.put_number-x.ensures.0, c.put_number-x.auto.out)
+    omega (arith, c.requires.2, run_fits c.args.code c.args.n c.requires.0 c.requires.1, length_run c.args.code c.args.n, c.put_number-x.ensures.0, c.put_number-x.auto.out)
 
 pub overflow_add-x : goal.overflow_add-x
 overflow_add-x c =
-    omega (arith, c.requires, length_run c.args.code c.args.n, c.put_number-x.ensures.0, c.put_number-x.auto.out)
+    omega (arith, c.requires.2, run_fits c.args.code c.args.n c.requires.0 c.requires.1, length_run c.args.code c.args.n, c.put_number-x.ensures.0, c.put_number-x.auto.out)
 
 pub put_number-requires : goal.put_number-requires
 put_number-requires c =
-    simp length-set (omega (arith, c.requires, length_run c.args.code c.args.n, c.put_number-x.ensures.0, c.put_number-x.auto.out))
+    simp length-set (omega (arith, c.requires.2, run_fits c.args.code c.args.n c.requires.0 c.requires.1, length_run c.args.code c.args.n, c.put_number-x.ensures.0, c.put_number-x.auto.out))
 
 pub shape_of-out : goal.shape_of-out
 shape_of-out c = c.put_number.auto.out ∙ (simp length-set c.put_number-x.auto.out)
@@ -29,6 +29,13 @@ returns c =
     let put_number = c.put_number-x in
     let put_number2 = c.put_number in (
       omega (arith, put_number2.ensures.0, put_number.ensures.0, length_run c.args.code c.args.n),
+      omega (
+        arith,
+        put_number2.ensures.0,
+        put_number.ensures.0,
+        run_fits c.args.code c.args.n c.requires.0 c.requires.1,
+        length_run c.args.code c.args.n,
+      ),
       run_stored _ _ _ _ _
           c.args.code c.args.n put_number.ensures.0 put_number.ensures.1 put_number2.ensures.1,
     )
