@@ -1,14 +1,16 @@
 -- What is known of a picture that is given: its marks, its raster's cells in lent memory, and that its words are few.
 use Prim.Native.Nat.{ℕ, ◌<◌, ◌≤◌}
-use mathlib.Core.Path.{◌≡◌, sym, ◌∙◌, ap}
+use mathlib.Core.Path.{◌≡◌, ◌∙◌, ap}
 use mathlib.Core.List.{List}
 use native.Mathlib.Omega.{arith}
 use lib.ListN.{length, take}
+use Rattle.std.specs.Prelude.{Result, Ok}
 use Rattle.buffers.specs.Values.{values_from}
 use Rattle.buffers.proofs.Values.{length_values, painted_values}
 use Rattle.refusals.specs.Table.{given}
+use Rattle.refusals.specs.Refusals.{says}
 use Rattle.refusals.specs.declared.Refusal.{Refusal}
-use Rattle.refusals.proofs.Tables.{never}
+use Rattle.refusals.proofs.Told.{same_told}
 use Rattle.registers.specs.inner.Accepted.{Accepted}
 use Rattle.registers.specs.declared.record.Registers.{Registers}
 use Rattle.registers.specs.declared.setting.Setting.{Setting}
@@ -18,10 +20,8 @@ use Rattle.cells.specs.inner.Known.{Picture}
 use Rattle.cells.proofs.Pictures.{given_picture}
 use Rattle.frame.specs.Frame.{raster_cell, raster_leaves}
 use Rattle.frame.proofs.Calls.{raster_held}
-use Rattle.marks.specs.Marks.{marks_of, marks_told, marks_says}
+use Rattle.marks.specs.Marks.{marks_of, marks_told}
 use Rattle.marks.proofs.Answers.{marks_counted}
-use Rattle.marks.specs.declared.answer.Marks.{Marks}
-use Rattle.marks.specs.declared.answer.Marks.TheVariants as marks
 
 module _ (g : Registers) (video cursor : List ℕ) (s : Setting) (e : picture_told g video cursor ≡ given s) where
   known : Picture s video cursor
@@ -50,8 +50,8 @@ module _ (g : Registers) (video cursor : List ℕ) (s : Setting) (e : picture_to
       let n = ap length h ∙ length_values (raster_cell g s video cursor y) 0 s.n.0 in
       (omega (arith, n, a.be_n, a.de_be, a.ds_de), omega (arith, n, a.n_most))
 
-  pub marks_are : (x : Marks) (m : ℕ) → marks_says x ≡ marks_told g video cursor 128 → x ≡ marks.Count m → m ≡ marks_of g s video cursor 128
-  marks_are x m h q = let z : given m ≡ given (marks_of g s video cursor 128) = sym (ap marks_says q) ∙ (h ∙ marks_given 128) in cc
+  pub marks_are : (x : Result ℕ Refusal) → says x ≡ marks_told g video cursor 128 → x ≡ Ok (marks_of g s video cursor 128)
+  marks_are x h = same_told x (Ok (marks_of g s video cursor 128)) (h ∙ marks_given 128)
 
-  pub marks_never : {A : Type 0} (x : Marks) (why : Refusal) → marks_says x ≡ marks_told g video cursor 128 → x ≡ marks.Refused why → A
-  marks_never x why h q = never (sym (marks_given 128) ∙ (sym h ∙ ap marks_says q))
+  pub marks_value : (x : Result ℕ Refusal) (m : ℕ) → says x ≡ marks_told g video cursor 128 → x ≡ Ok m → m ≡ marks_of g s video cursor 128
+  marks_value x m h q = let are = marks_are x h in cc

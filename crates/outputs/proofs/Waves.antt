@@ -4,7 +4,6 @@ use mathlib.Core.Path.{◌≡◌, refl, sym, ◌∙◌, ap}
 use mathlib.Core.List.{List, [], ◌++◌, append-nil, append_assoc}
 use mathlib.Core.Logic.{inl, inr}
 use native.Mathlib.Omega.{arith}
-use native.Mathlib.Nat.{sub-zero}
 use lib.ListN.{length, take, drop, length-drop, drop_of_length-le, take-append-drop}
 use lib.Seq.{sets-eq, take_at, take_all, length-take-le, drop-drop}
 use lib.IntN.{ℤ}
@@ -13,10 +12,6 @@ use Rattle.buffers.specs.Put.{Put, text_in}
 use Rattle.buffers.proofs.Puts.{text_fits}
 use Rattle.buffers.proofs.Split.{lt_or_le}
 use Rattle.refusals.specs.Table.{Why, Told, given, refused}
-use Rattle.refusals.specs.Refusals.{answer_says}
-use Rattle.refusals.specs.declared.Refusal.{Refusal}
-use Rattle.refusals.specs.declared.Answer.{Answer}
-use Rattle.refusals.specs.declared.Answer.TheVariants as answer
 use Rattle.registers.specs.Stereo.{frequency_of}
 use Rattle.registers.specs.Sound.{sound_told}
 use Rattle.registers.specs.declared.record.Registers.{Registers}
@@ -32,18 +27,15 @@ use Rattle.sheets.proofs.Sheets.{few_sounds}
 use Rattle.outputs.specs.Wave.{wave_told, wave_by, wave_of, sound_block, wave_block, block_by, block_at, first_blocks}
 use Rattle.outputs.proofs.Sheets.{wave_untaken}
 
--- a record judged for its sound, and its blocks
-module _ (g : Registers) (x : Answer) (e : answer_says x ≡ sound_told g) where
-  pub block_refused : (words : List ℕ) (k : ℕ) (why : Refusal) → x ≡ answer.Refused why → block_at g words k ≡ []
+-- a block of what is told of a sound
+module _ (g : Registers) (words : List ℕ) (k : ℕ) where
+  pub block_refused : (w : Why) → refused w ≡ sound_told g → block_at g words k ≡ []
   unfolding block_at
-  block_refused words k why q = rw (← e, q)
+  block_refused w e = rw (← e)
 
-  pub sound_given : x ≡ answer.Done → sound_told g ≡ given tt
-  sound_given q = sym e ∙ ap answer_says q
-
-  pub block_given : (words : List ℕ) (k : ℕ) → x ≡ answer.Done → block_at g words k ≡ wave_block g words k
+  pub block_given : given tt ≡ sound_told g → block_at g words k ≡ wave_block g words k
   unfolding block_at
-  block_given words k q = rw (← e, q)
+  block_given e = rw (← e)
 
 -- the values that a call left in lent memory, taken from its front, as samples with room for them
 module _ (g : Registers) (words : List ℕ) (c : ℕ) (old new : List ℤ) (e : sound_told g ≡ given tt) (leaves : new ≡ play_leaves g words c old)
@@ -55,10 +47,10 @@ module _ (g : Registers) (words : List ℕ) (c : ℕ) (old new : List ℤ) (e : 
       (take_at (played_of g c words) _ (8 * length words) n)
 
   pub samples_put : {o p : List ℕ} {r : ℕ} (size : ℕ) → 16 * length words ≤ size
-      → Put o p 0 (text_in size (samples_of (take (8 * length words - 0) new))) r → Put o p 0 (samples_of (played_of g c words)) r
+      → Put o p 0 (text_in size (samples_of (take (8 * length words) new))) r → Put o p 0 (samples_of (played_of g c words)) r
   samples_put size h put =
       let fits : length (samples_of (played_of g c words)) ≤ size = omega (arith, length_samples (played_of g c words), length_played g c words) in
-      rw (← text_fits size (samples_of (played_of g c words)) fits, ← values_taken, ← sub-zero (8 * length words)) put
+      rw (← text_fits size (samples_of (played_of g c words)) fits, ← values_taken) put
 
 -- past the last word there are no samples
 no_samples : (g : Registers) (words : List ℕ) (k : ℕ) → length words ≤ 256 * k → sound_block g words k ≡ []

@@ -7,7 +7,6 @@ ghost use Rattle.sound.specs.Play.{played_of};
 ghost use Rattle.waves.specs.Samples.{samples_of};
 ghost use Rattle.outputs.specs.Wave.{sound_block, wave_block, block_at};
 
-use refusals::Answer;
 use registers::record::Registers;
 
 // How many words a block has.
@@ -21,14 +20,13 @@ fn part(words: &[u32], k: usize) -> Option<&[u32]>
 }
 
 // The samples of at most a block of words.
-fn put_played(out: &mut [u8], g: Registers, words: &[u32], counter: u32) -> usize
+fn put_played(out: &mut [u8], g: Registers, words: &[u32], mut counter: u32) -> usize
     requires { (4096 ≤ length out.old) × (length words.now ≤ 256) × (sound_told g ≡ given tt) }
     ensures { Put out.old out.new 0 (samples_of (played_of g counter words.now)) result }
 {
     let mut values = [0i16; 2048];
-    sound::play(g, words, counter, &mut values);
-    let n = 8 * words.len();
-    waves::samples::samples(&values[0..n], out)
+    sound::play(g, words, &mut counter, &mut values).unwrap();
+    waves::samples::samples(&values[..8 * words.len()], out)
 }
 
 // Block k, from 0, of the words' samples.
@@ -62,7 +60,7 @@ pub fn block(g: Registers, words: &[u32], k: usize, out: &mut [u8; 4096]) -> usi
     ensures { Put out.old out.new 0 (block_at g words.now k) result }
 {
     match g.check_sound() {
-        Answer::Refused(_) => 0,
-        Answer::Done => wave_block(out, g, words, k),
+        Ok(()) => wave_block(out, g, words, k),
+        Err(_) => 0,
     }
 }

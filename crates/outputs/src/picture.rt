@@ -8,7 +8,6 @@ ghost use Rattle.frame.specs.Frame.{raster_cell};
 
 use cells::judge;
 use refusals::Refusal;
-use registers::check::Checked;
 use registers::record::Registers;
 use registers::setting::Setting;
 use registers::units::Rasters;
@@ -29,15 +28,13 @@ impl<'a> Picture<'a> {
             (λ p. (p.g ≡ g) × (p.video.now ≡ video.now) × (p.cursor.now ≡ cursor.now))
             (λ why. picture_told g video.now cursor.now ≡ refusal why) }
     {
-        match judge(g, video, cursor) {
-            Checked::Refused(why) => Err(why),
-            Checked::Accepted(s) => Ok(Picture {
-                g,
-                s,
-                video,
-                cursor,
-            }),
-        }
+        let s = judge(g, video, cursor)?;
+        Ok(Picture {
+            g,
+            s,
+            video,
+            cursor,
+        })
     }
 
     // The cells of raster y, in lent memory.
@@ -45,7 +42,7 @@ impl<'a> Picture<'a> {
         requires { y.0 < self.now.s.v.0 }
         ensures { result.now ≡ values_from (raster_cell self.now.g self.now.s self.now.video.now self.now.cursor.now y.0) 0 self.now.s.n.0 }
     {
-        frame::raster(self.g, self.video, self.cursor, y, room);
+        frame::raster(self.g, self.video, self.cursor, y, room).unwrap();
         &room[..usize::from(self.s.n.0)]
     }
 }

@@ -7,7 +7,6 @@ ghost use Rattle.outputs.specs.Text.{refused_line, picture_head, raster_line, pi
 use crate::line::put_line;
 use crate::picture::Picture;
 use crate::words::{put_bytes, put_head, put_refused};
-use marks::answer::Marks;
 use refusals::Refusal;
 use registers::record::Registers;
 use registers::units::Rasters;
@@ -20,16 +19,14 @@ fn head_line(out: &mut [u8], p: &Picture<'_>) -> usize
     requires { 8256 ≤ length out.old }
     ensures { Put out.old out.new 0 (picture_head p.now.g p.now.s p.now.video.now p.now.cursor.now) result }
 {
-    match marks::marks(p.g, p.video, p.cursor, THRESHOLD) {
-        Marks::Count(marks) => put_head(
-            out,
-            u32::from(p.s.n.0),
-            u32::from(p.s.v.0),
-            p.video.len() as u32,
-            marks,
-        ),
-        Marks::Refused(_) => 0,
-    }
+    let marks = marks::marks(p.g, p.video, p.cursor, THRESHOLD).unwrap();
+    put_head(
+        out,
+        u32::from(p.s.n.0),
+        u32::from(p.s.v.0),
+        p.video.len() as u32,
+        marks,
+    )
 }
 
 // The line of raster y.
@@ -42,7 +39,7 @@ fn raster_line(out: &mut [u8], p: &Picture<'_>, y: Rasters) -> usize
 }
 
 // Line k of a picture.
-fn picture_line(out: &mut [u8], p: &Picture<'_>, k: usize) -> usize
+pub(crate) fn picture_line(out: &mut [u8], p: &Picture<'_>, k: usize) -> usize
     requires { 8256 ≤ length out.old }
     ensures { Put out.old out.new 0 (picture_line p.now.g p.now.s p.now.video.now p.now.cursor.now k) result }
 {

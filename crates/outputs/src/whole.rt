@@ -4,43 +4,48 @@ ghost use Rattle.std.proofs.lemmas.List.Edits.{sets};
 ghost use Rattle.buffers.specs.Put.{Put, text_in};
 ghost use Rattle.outputs.specs.Text.{picture_text};
 
-use crate::text::line;
+use crate::picture::Picture;
+use crate::text::{picture_line, refused};
 use crate::words::put_bytes;
 use registers::record::Registers;
 
-// The head, and a line for each of 1,024 rasters at most.
-const MOST_LINES: usize = 1025;
-
-// How many bytes the text has. A line of no bytes stands after the last.
-fn measure(g: Registers, video: &[u32], cursor: &[u32]) -> usize
-    ensures { result ≡ length (picture_text g video.now cursor.now) }
+// How many bytes the text has: the head, and a line for each raster.
+fn measure(p: &Picture<'_>) -> usize
+    ensures { result ≡ length (picture_text p.now.g p.now.video.now p.now.cursor.now) }
 {
+    let lines = 1 + usize::from(p.s.v.0);
     let mut bytes = [0u8; 8256];
     let mut total = 0;
-    for k in 0..MOST_LINES {
-        let n = line(g, video, cursor, k, &mut bytes);
-        if n == 0 {
-            return total;
-        }
-        total += n;
+    for k in 0..lines {
+        total += picture_line(&mut bytes, p, k);
     }
     total
 }
 
 // All lines stored, one after another.
-fn put_lines(g: Registers, video: &[u32], cursor: &[u32], out: &mut [u8])
-    requires { length (picture_text g video.now cursor.now) ≤ length out.old }
-    ensures { out.new ≡ sets out.old 0 (picture_text g video.now cursor.now) }
+fn put_lines(p: &Picture<'_>, out: &mut [u8])
+    requires { length (picture_text p.now.g p.now.video.now p.now.cursor.now) ≤ length out.old }
+    ensures { out.new ≡ sets out.old 0 (picture_text p.now.g p.now.video.now p.now.cursor.now) }
 {
+    let lines = 1 + usize::from(p.s.v.0);
     let mut bytes = [0u8; 8256];
     let mut at = 0;
-    for k in 0..MOST_LINES {
-        let n = line(g, video, cursor, k, &mut bytes);
-        if n == 0 {
-            return;
-        }
+    for k in 0..lines {
+        let n = picture_line(&mut bytes, p, k);
         at = put_bytes(out, at, &bytes[..n]);
     }
+}
+
+// All lines, and how many bytes; none where they do not fit.
+fn put_picture(p: &Picture<'_>, out: &mut [u8]) -> usize
+    ensures { Put out.old out.new 0 (text_in (length out.old) (picture_text p.now.g p.now.video.now p.now.cursor.now)) result }
+{
+    let n = measure(p);
+    if out.len() < n {
+        return 0;
+    }
+    put_lines(p, out);
+    n
 }
 
 // The text of a picture, refused or not, and its length; no bytes where it does not fit.
@@ -48,10 +53,8 @@ pub fn text(g: Registers, video: &[u32], cursor: &[u32], out: &mut [u8]) -> usiz
     ensures { Put out.old out.new 0
         (text_in (length out.old) (picture_text g video.now cursor.now)) result }
 {
-    let n = measure(g, video, cursor);
-    if out.len() < n {
-        return 0;
+    match Picture::of(g, video, cursor) {
+        Ok(picture) => put_picture(&picture, out),
+        Err(why) => refused(why, out),
     }
-    put_lines(g, video, cursor, out);
-    n
 }

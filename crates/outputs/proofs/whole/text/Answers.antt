@@ -1,24 +1,13 @@
--- The text is measured first, so that it is stored whole or not at all.
-use native.Mathlib.Omega.{arith}
-use lib.ListN.{length}
-use Rattle.buffers.proofs.Puts.{put_nothing, text_short, text_fits}
-use Rattle.outputs.specs.Text.{picture_text}
+-- A refused picture's text is the line that refuses it; any other's are its lines.
+use Rattle.outputs.proofs.Lines.{refused_text}
 use Rattle.outputs.proofs.whole.text.Goals as goal
 
-pub returns-then-out-n : goal.returns-then-out-n
-returns-then-out-n c =
-    let a = c.args in
-    let short = text_short (length a.out.now) (picture_text a.g a.video.now a.cursor.now)
-    (omega (arith, c.measure-n.ensures, c.if-out-n.true)) in
-    rw short (put_nothing _)
+pub returns-in-Ok : goal.returns-in-Ok
+returns-in-Ok c =
+    let same = c.in-Ok.ensures in
+    rw (← same.0, ← same.1, ← same.2) c.put_picture.ensures
 
-pub put_lines-requires : goal.put_lines-requires
-put_lines-requires c = omega (arith, c.measure-n.ensures, c.if-out-n.false)
-
-pub returns : goal.returns
-returns c =
+pub returns-in-Err : goal.returns-in-Err
+returns-in-Err c =
     let a = c.args in
-    let n = c.measure-n.ensures in
-    let fits = c.if-out-n.false in
-    rw (text_fits (length a.out.now) (picture_text a.g a.video.now a.cursor.now) (omega (arith, n, fits)))
-    (record { stored = c.put_lines.ensures; after = omega (arith, n); inside = fits })
+    rw (refused_text a.g a.video.now a.cursor.now _ c.in-Err.ensures) c.refused.ensures
