@@ -1,13 +1,8 @@
 -- The test is the definition's; where it holds the colours are put, and else nothing is done.
 use mathlib.Core.Bool.{true}
 use mathlib.Core.Path.{◌∙◌}
-use Rattle.pictures.proofs.Judged.{guns_folded, right_room, right_read, wrong_left}
+use Rattle.pictures.proofs.Judged.{guns_folded, right_read, wrong_left}
 use Rattle.pictures.proofs.read.colours.Goals as goal
-
-pub put_colours-requires : goal.put_colours-requires
-put_colours-requires c =
-    let bytes = c.args.bytes.now in
-    right_room bytes _ (rw (c.all_guns.ensures ∙ guns_folded true bytes) at c.if-all_guns-bytes.true)
 
 pub returns-then-all_guns-bytes : goal.returns-then-all_guns-bytes
 returns-then-all_guns-bytes c =

@@ -1,16 +1,10 @@
 -- A byte a turn: what is stored and what the rest will store make the whole.
-use Rattle.std.proofs.Common.{◌≡◌, ◌+◌, ◌*◌, refl, sym, ◌∙◌, arith, rules}
+use Rattle.std.proofs.Common.{refl, sym, ◌∙◌, arith, rules}
 use Rattle.buffers.specs.Words.{bytes_of}
 use Rattle.sound.specs.Values.{counter_after}
 use Rattle.sound.specs.inner.Tables.{left_in, right_in}
 use Rattle.sound.proofs.Turns.{by_counter, byte_turn, bytes_done}
 use Rattle.sound.proofs.values.Channels.play_word.Goals as goal
-
-pub loop-k-init : goal.loop-k-init
-loop-k-init c =
-    let here : c.args.at + 2 * 0 ≡ c.args.at = omega arith in
-    let now : counter_after c.args.counter 0 ≡ c.args.counter = omega arith in
-    rw (here, now)
 
 pub loop-k-preserved : goal.loop-k-preserved
 loop-k-preserved c =
