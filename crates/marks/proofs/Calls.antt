@@ -12,6 +12,7 @@ use Rattle.registers.specs.Setting.{setting_of}
 use Rattle.registers.specs.declared.record.Registers.{Registers}
 use Rattle.registers.specs.declared.setting.Setting.{Setting}
 use Rattle.refusals.proofs.Tables.{and_then_judged}
+use Rattle.refusals.proofs.Told.{handed_on}
 use Rattle.cells.specs.Picture.{picture_table, picture_told}
 use Rattle.cells.proofs.Pictures.{picture_setting}
 use Rattle.marks.specs.Summaries.{entries_length, entry_number, raster_of, summaries_told, summaries_leaves, replace_told, video_leaves, replace_leaves}
@@ -79,3 +80,8 @@ module _ (g : Registers) (video cursor : List ℕ) (threshold : ℕ) (o : List �
         unfolding video_leaves replace_leaves
         replace_put p h q =
             (sym (replace_given h), rw (replace_given h), rw (replace_given h, ← picture_setting g video cursor s e) q)
+
+-- What the exits of the two calls go by.
+pub ruleset made = (handed_on, summaries_then)
+
+pub ruleset replaced = (handed_on, replace_then)

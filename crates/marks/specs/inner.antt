@@ -1,3 +1,4 @@
 pub mod Bright
 pub mod Seen
 pub mod Shown
+pub mod Known

@@ -1,13 +1,12 @@
 // Entries put into lent memory, three numbers each.
 ghost use Rattle.std.specs.Prelude.{◌≡◌, ◌+◌, ◌*◌, ◌%◌, ◌≤◌, length};
 ghost use Rattle.buffers.specs.Painted.{painted};
-ghost use Rattle.cells.specs.inner.Known.{Picture};
-ghost use Rattle.marks.specs.Summaries.{number_of, displayed_rasters};
-ghost use Rattle.marks.specs.inner.Shown.{number_by, RasterTables};
+ghost use Rattle.marks.specs.Summaries.{number_of, entries_length};
+ghost use Rattle.marks.specs.inner.Shown.{number_by};
 
 use crate::entry::Entry;
-use crate::rasters::by_words;
-use registers::setting::Setting;
+use crate::judged::Judged;
+use crate::tables::Tables;
 
 // Entry r.
 pub fn put_entry(out: &mut [u16], r: usize, entry: Entry)
@@ -20,24 +19,13 @@ pub fn put_entry(out: &mut [u16], r: usize, entry: Entry)
 }
 
 // The entries of all displayed rasters.
-pub fn put_entries(
-    s: Setting,
-    video: &[u32],
-    cursor: &[u32],
-    greys: &[u8; 256],
-    pixels: &[u8; 256],
-    bytes: &[u32; 256],
-    masks: &[u32; 256],
-    rasters: usize,
-    out: &mut [u16],
-)
-    requires { Picture s video.now cursor.now × RasterTables pixels.now bytes.now masks.now s.depth
-        × (rasters ≡ displayed_rasters s) × (3 * rasters ≤ length out.old) }
+pub fn put_entries(picture: &Judged, tables: &Tables, out: &mut [u16])
+    requires { (tables.now.depth ≡ picture.now.s.depth) × (entries_length picture.now.s ≤ length out.old) }
     ensures { out.new
-        ≡ painted out.old 0 (3 * rasters) (number_by greys.now pixels.now s video.now cursor.now) }
+        ≡ painted out.old 0 (entries_length picture.now.s)
+        (number_by tables.now.shades.greys tables.now.shades.bright picture.now.s picture.now.video.now picture.now.cursor.now) }
 {
-    for r in 0..rasters {
-        let entry = by_words(s, video, cursor, greys, pixels, bytes, masks, r);
-        put_entry(out, r, entry);
+    for r in 0..picture.rasters() {
+        put_entry(out, r, picture.by_words(tables, r));
     }
 }

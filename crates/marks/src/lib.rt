@@ -7,6 +7,7 @@ mod entries;
 pub mod entry;
 mod extremes;
 mod holds;
+mod judged;
 mod part;
 mod pixels;
 mod rasters;
@@ -20,7 +21,7 @@ ghost use Rattle.std.specs.Prelude.{◌≡◌};
 ghost use Rattle.refusals.specs.Refusals.{says};
 ghost use Rattle.marks.specs.Marks.{marks_told};
 
-use crate::count::count;
+use crate::judged::Judged;
 use cells::judge;
 use refusals::Refusal;
 use registers::record::Registers;
@@ -31,5 +32,6 @@ pub fn marks(g: Registers, video: &[u32], cursor: &[u32], threshold: u8) -> Resu
     ensures { says result ≡ marks_told g video.now cursor.now threshold }
 {
     let s = judge(g, video, cursor)?;
-    Ok(count(g, s, video, cursor, threshold))
+    let picture = Judged { s, video, cursor };
+    Ok(picture.count(g, threshold))
 }

@@ -1,10 +1,10 @@
 // Whole words of a raster: the sum of a table of bytes over them, and the pixels that they hold.
 ghost use Rattle.std.specs.Prelude.{◌≡◌, ◌*◌, ◌≤◌, length};
-ghost use Rattle.registers.specs.inner.Accepted.{Depth};
 ghost use Rattle.marks.specs.Count.{total};
 ghost use Rattle.marks.specs.inner.Bright.{AtMost, word_bright, word_bright_at};
-ghost use Rattle.marks.specs.inner.Seen.{only, Flagged, Masks, word_mask, words_mask, words_seen, mask_times};
+ghost use Rattle.marks.specs.inner.Seen.{only, Flagged, word_mask, words_mask, words_seen, mask_times};
 
+use crate::tables::Tables;
 use crate::walk::in_word;
 
 // The masks of a word's bytes together.
@@ -66,23 +66,19 @@ fn flagged_span(bytes: &[u32; 256], words: &[u32], flags: &mut [u8; 256]) -> u32
     count
 }
 
-// Some words: the table's sum, and the pixels seen. At depth 8 the masks play no part.
-pub fn span(
-    depth: u8,
-    bytes: &[u32; 256],
-    masks: &[u32; 256],
-    words: &[u32],
-    flags: &mut [u8; 256],
-) -> u32
-    requires { Depth depth × AtMost bytes.now 255 × (depth ≤ 4 → Masks masks.now depth) × (length words.now ≤ 512) }
-    ensures { (result ≡ total (word_bright_at bytes.now words.now) (length words.now))
-        × (result ≤ 1020 * 512)
-        × Flagged flags.old flags.new (words_seen depth words.now (length words.now)) }
-{
-    if depth == 8 {
-        return flagged_span(bytes, words, flags);
+impl Tables {
+    // Some words: the table's sum, and the pixels seen. At depth 8 the masks play no part.
+    pub fn span(&self, words: &[u32], flags: &mut [u8; 256]) -> u32
+        requires { length words.now ≤ 512 }
+        ensures { (result ≡ total (word_bright_at self.now.sums words.now) (length words.now))
+            × (result ≤ 1020 * 512)
+            × Flagged flags.old flags.new (words_seen self.now.depth words.now (length words.now)) }
+    {
+        if self.depth == 8 {
+            return flagged_span(&self.sums, words, flags);
+        }
+        let (count, mask) = masked_span(&self.sums, &self.masks, words);
+        flag_mask(mask, flags);
+        count
     }
-    let (count, mask) = masked_span(bytes, masks, words);
-    flag_mask(mask, flags);
-    count
 }

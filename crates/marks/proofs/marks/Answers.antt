@@ -5,8 +5,8 @@ use Rattle.cells.proofs.Pictures.{given_picture}
 use Rattle.marks.proofs.Answers.{marks_counted}
 use Rattle.marks.proofs.marks.Goals as goal
 
-pub count-requires : goal.count-requires
-count-requires c = given_picture c.args.g _ _ _ (sym c.in_ok-s.ensures)
+pub invariant_of-picture : goal.invariant_of-picture
+invariant_of-picture c = record { judged = given_picture c.args.g _ _ _ (sym c.in_ok-s.ensures) }
 
 pub returns : goal.returns
 returns c = ap given c.count.ensures ∙ sym (marks_counted c.args.g _ _ _ _ (sym c.in_ok-s.ensures))

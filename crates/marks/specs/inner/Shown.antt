@@ -3,6 +3,7 @@ use Rattle.std.specs.declared.ops.Range.{Range}
 use Rattle.std.specs.Prelude.{ℕ, ◌+◌, ◌*◌, ◌-◌, ◌/◌, ◌%◌, ◌<◌, ◌≤◌, true, List, ◌≡◌, ltb, leb, get_or}
 use Rattle.buffers.specs.Pick.{pick}
 use Rattle.registers.specs.Setting.{raster_words}
+use Rattle.registers.specs.inner.Accepted.{Depth}
 use Rattle.registers.specs.declared.record.Registers.{Registers}
 use Rattle.registers.specs.declared.setting.Setting.{Setting}
 use Rattle.colours.specs.Colour.{colour_of}
@@ -12,7 +13,7 @@ use Rattle.cells.specs.Cell.{covered}
 use Rattle.marks.specs.Count.{total, bit}
 use Rattle.marks.specs.Extremes.{least_of, greatest_of}
 use Rattle.marks.specs.Summaries.{number_of}
-use Rattle.marks.specs.inner.Bright.{Tabled, AtMost, byte_bright}
+use Rattle.marks.specs.inner.Bright.{Tabled, byte_bright}
 use Rattle.marks.specs.inner.Seen.{only, Masks, pixels_for}
 use Rattle.marks.specs.declared.entry.Entry.{Entry}
 
@@ -57,9 +58,9 @@ entry_by greys pixels s video cursor y =
 unfoldable pub number_by : List ℕ → List ℕ → Setting → List ℕ → List ℕ → ℕ → ℕ
 number_by greys pixels s video cursor k = number_of (entry_by greys pixels s video cursor (s.vds.0 + k / 3)) (k % 3)
 
--- What the tables hold: of bright pixels, of bytes, and at depths up to 4 of masks.
+-- What tables by byte hold at a depth, by one of bright pixels: of each byte the count, and at depths up to 4 the mask.
 pub record RasterTables (pixels bytes masks : List ℕ) (d : ℕ) : Type 0 where
-  pub few : AtMost pixels 1
+  pub depth : Depth d
   pub summed : Tabled bytes 256 (byte_bright pixels d)
   pub held : d ≤ 4 → Masks masks d
 

@@ -1,8 +1,0 @@
--- Cursor raster after cursor raster: after each turn the sum is that over the rasters below j.
-use Rattle.std.proofs.Common.{◌≡◌, ◌≤◌, ◌*◌}
-use Rattle.marks.specs.inner.Bright.{cursor_raster}
-use Rattle.marks.specs.Count.{total}
-use Rattle.marks.proofs.cover.covered.Given as goal
-
-abbrev pub invariant-loop-j : goal.invariant-loop-j
-invariant-loop-j l = (l.sum ≡ total (cursor_raster l.s l.video l.cursor l.pixels) l.j) × (l.sum ≤ 8160 * l.j)
