@@ -50,8 +50,9 @@ module _ (g : Registers) (video cursor : List ℕ) (s : Setting) (e : picture_to
       let n = ap length h ∙ length_values (raster_cell g s video cursor y) 0 s.n.0 in
       (omega (arith, n, a.be_n, a.de_be, a.ds_de), omega (arith, n, a.n_most))
 
-  pub marks_are : (x : Result ℕ Refusal) → says x ≡ marks_told g video cursor 128 → x ≡ Ok (marks_of g s video cursor 128)
-  marks_are x h = same_told x (Ok (marks_of g s video cursor 128)) (h ∙ marks_given 128)
+  module _ (threshold : ℕ) (x : Result ℕ Refusal) (h : says x ≡ marks_told g video cursor threshold) where
+    pub marks_are : x ≡ Ok (marks_of g s video cursor threshold)
+    marks_are = same_told x (Ok (marks_of g s video cursor threshold)) (h ∙ marks_given threshold)
 
-  pub marks_value : (x : Result ℕ Refusal) (m : ℕ) → says x ≡ marks_told g video cursor 128 → x ≡ Ok m → m ≡ marks_of g s video cursor 128
-  marks_value x m h q = let are = marks_are x h in cc
+    pub marks_value : (m : ℕ) → x ≡ Ok m → m ≡ marks_of g s video cursor threshold
+    marks_value m q = let are = marks_are in cc

@@ -9,7 +9,7 @@ use native.Mathlib.Numerals.{add-one}
 use native.Mathlib.Omega.{arith}
 use lib.Dec.{eqb}
 use lib.ListN.{length, get_or, take, drop, set, length-append, length-set, length-drop}
-use lib.Seq.{sets, drop-cons, drop-drop, get_or-take, length-sets}
+use lib.Seq.{sets, drop-cons, get_or-take, length-sets}
 use Rattle.std.proofs.lemmas.List.{get_or-drop}
 use borrow.Author.Tests.{eq-eqb, ne_eqb}
 use Rattle.buffers.specs.Pick.{pick}
@@ -27,43 +27,36 @@ pub run_stored : (o p q : List ℕ) (at x code n : ℕ) → x ≡ at + places co
 unfolding run
 run_stored o p q at x code n e ep eq = rw (sets_append, length_decimal, ← e, ← ep) (rw add-one at eq)
 
--- cells that are left behind others of a code
-module _ (cells left : List ℕ) (code : ℕ) (most : length left ≤ length cells) (is : left ≡ drop (length cells - length left) cells)
-    (same : (k : ℕ) → k < length cells - length left → code_at cells k ≡ code) where
-  abbrev passed : ℕ
-  passed = length cells - length left
-
-  behind : (k : ℕ) → code_at left k ≡ code_at cells (passed + k)
-  behind k = ap (λ (l : List ℕ). code_at l k) is ∙ ap (λ (n : ℕ). n / 8192) (get_or-drop passed cells k 0)
+-- cells behind others of a code
+module _ (cells : List ℕ) (code i : ℕ) (most : i ≤ length cells) (same : (k : ℕ) → k < i → code_at cells k ≡ code) where
+  behind : (k : ℕ) → code_at (drop i cells) k ≡ code_at cells (i + k)
+  behind k = ap (λ (n : ℕ). n / 8192) (get_or-drop i cells k 0)
 
   -- the first r of them have the code too
-  further : (r : ℕ) → ((k : ℕ) → k < r → code_at left k ≡ code) → (k : ℕ) → k < passed + r → code_at cells k ≡ code
-  further r each k h = elim (lt_or_le k passed) [
+  further : (r : ℕ) → ((k : ℕ) → k < r → code_at (drop i cells) k ≡ code) → (k : ℕ) → k < i + r → code_at cells k ≡ code
+  further r each k h = elim (lt_or_le k i) [
     | inl t ↦ same k t
     | inr t ↦
-        let e : passed + (k - passed) ≡ k = omega arith in
-        ap (code_at cells) (sym e) ∙ (sym (behind (k - passed)) ∙ each (k - passed) (omega arith))
+        let e : i + (k - i) ≡ k = omega arith in
+        ap (code_at cells) (sym e) ∙ (sym (behind (k - i)) ∙ each (k - i) (omega arith))
   ]
 
-  pub same_further : (r : ℕ) → Same left code r → Same cells code (passed + r)
+  pub same_further : (r : ℕ) → Same (drop i cells) code r → Same cells code (i + r)
   same_further r e =
+      let n = length-drop i cells in
       record {
-        high = omega (arith, e.high);
+        high = omega (arith, n, e.high);
         same = further r e.same;
-        other = λ h q. e.other (omega arith) (behind r ∙ q);
+        other = λ h q. e.other (omega (arith, n)) (behind r ∙ q);
       }
 
-  -- eight of them
-  module _ (eight others : List ℕ) (first : eight ≡ take 8 left) (next : others ≡ drop 8 left) (long : length others + 8 ≡ length left)
-      (each : (k : ℕ) → k < 8 → get_or eight k 0 / 8192 ≡ code) where
-    pub eight_more : (length others ≤ length cells) × (others ≡ drop (length cells - length others) cells)
-        × ((k : ℕ) → k < length cells - length others → code_at cells k ≡ code)
-    eight_more =
-        let n : length cells - length others ≡ passed + 8 = omega arith in (
-          omega arith,
-          next ∙ ap (drop 8) is ∙ drop-drop 8 passed cells ∙ rw n,
-          λ k h. further 8 (λ j t. ap (λ (c : ℕ). c / 8192) (sym (ap (λ (l : List ℕ). get_or l j 0) first ∙ get_or-take 8 left j 0 t)) ∙ each j t) k (omega arith),
-        )
+  -- eight of them do
+  pub eight_further : (eight : List ℕ) → eight ≡ take 8 (drop i cells) → ((k : ℕ) → k < 8 → get_or eight k 0 / 8192 ≡ code)
+      → (k : ℕ) → k < i + 8 → code_at cells k ≡ code
+  eight_further eight e each =
+      further 8
+      (λ j t.
+      ap (λ (c : ℕ). c / 8192) (sym (ap (λ (l : List ℕ). get_or l j 0) e ∙ get_or-take 8 (drop i cells) j 0 t)) ∙ each j t)
 
 -- cells of the same code lengthen the run
 same_run : (cells : List ℕ) (code n r : ℕ) → r ≤ length cells → ((k : ℕ) → k < r → code_at cells k ≡ code)

@@ -33,14 +33,14 @@ fn run_length(cells: &[u16]) -> usize
     ensures { Same cells.now (slice_index cells.now 0 / 8192) result }
 {
     let code = cells[0] / 8192;
-    let mut rest = cells;
-    while let Some((eight, others)) = rest.split_first_chunk::<8>() {
+    let mut same = 0;
+    while let Some(eight) = cells[same..].first_chunk::<8>() {
         if !all_have(eight, code) {
             break;
         }
-        rest = others;
+        same += 8;
     }
-    cells.len() - rest.len() + count_same(rest, code)
+    same + count_same(&cells[same..], code)
 }
 
 // One run stored from a place on; the place after it. Four bytes a cell are room for it and what follows it.

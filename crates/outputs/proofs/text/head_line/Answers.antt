@@ -9,7 +9,7 @@ use Rattle.outputs.proofs.text.head_line.Goals as goal
 pub unwrap-marks-requires : goal.unwrap-marks-requires
 unwrap-marks-requires c =
     let p = c.args.p.now in
-    rw (marks_are p.g p.video.now p.cursor.now p.s p.accepted _ c.marks.ensures) refl
+    rw (marks_are p.g p.video.now p.cursor.now p.s p.accepted _ _ c.marks.ensures) refl
 
 pub overflow_cast-p : goal.overflow_cast-p
 overflow_cast-p c =
@@ -20,5 +20,5 @@ pub returns : goal.returns
 unfolding picture_head
 returns c =
     let p = c.args.p.now in
-    let marks = marks_value p.g p.video.now p.cursor.now p.s p.accepted _ _ c.marks.ensures c.unwrap-marks.ensures in
+    let marks = marks_value p.g p.video.now p.cursor.now p.s p.accepted _ _ c.marks.ensures _ c.unwrap-marks.ensures in
     rw (← marks, ← c.from.ensures, ← c.from-2.ensures) c.put_head.ensures
