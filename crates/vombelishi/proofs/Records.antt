@@ -1,17 +1,14 @@
 -- A record made of two lists, and what two lists tell, by their lengths.
 use Prim.Native.Nat.{ℕ, ◌≤◌, ◌<◌}
-use mathlib.Core.Bool.{Bool, true, false, ◌||◌}
-use mathlib.Core.Path.{◌≡◌, refl, sym, ◌∙◌}
+use mathlib.Core.Bool.{Bool, true, false}
+use mathlib.Core.Path.{◌≡◌, sym, ◌∙◌, ap}
 use mathlib.Core.List.{List, [], ◌∷◌, map}
 use native.Mathlib.Omega.{arith}
-use lib.Dec.{ltb}
-use lib.ListN.{length, get_or}
-use borrow.Author.Tests.{ltb-false, lt-ltb, le-ltb}
-use Rattle.std.specs.Array.{IsFirstChunk}
+use lib.ListN.{length, get_or, take}
+use lib.Seq.{get_or-take}
 use Rattle.std.proofs.Common.{below_more, set, ◌+◌}
 use Rattle.std.proofs.lemmas.List.{get_or-set_same, get_or-set_other, ext_get_or, get_or-map, length-map, length-take-le}
-use Rattle.buffers.proofs.Tests.{no, or_right}
-use Rattle.refusals.specs.Table.{why, Told, given, refused, row, judged, and_then}
+use Rattle.refusals.specs.Table.{given, row, judged}
 use Rattle.registers.specs.Record.{registers_by}
 use Rattle.registers.specs.declared.record.Registers.{Registers}
 use Rattle.refusals.proofs.Tables.{never}
@@ -25,20 +22,17 @@ flag_more fs bs k h so_far =
     (λ i b. get_or-set_other fs k i _ false (λ e. omega (arith, e, b)) ∙ so_far i b) (get_or-set_same fs k _ false h)
 
 module _ (values written : List ℕ) where
-  -- the first 64 of each list, as arrays
-  pub record_made : (ns bs : List ℕ) (fs : List Bool) → IsFirstChunk values ns 64 → IsFirstChunk written bs 64 → length fs ≡ 64
-      → ((k : ℕ) → k < 64 → get_or fs k false ≡ is_set (get_or bs k 0)) → given (registers_by ns fs) ≡ record_told values written
-  unfolding record_told record_of
-  record_made ns bs fs a b long each =
-      let n : length bs ≡ 64 = rw b.same (length-take-le 64 written b.enough) in
+  -- the first 64 of each list
+  pub record_made : (fs : List Bool) → length fs ≡ 64 → 64 ≤ length written → ((k : ℕ) → k < 64 → get_or fs k false ≡ is_set (get_or written k 0))
+      → registers_by (take 64 values) fs ≡ record_of values written
+  unfolding record_of
+  record_made fs long h each =
+      let bs = take 64 written in
+      let n : length bs ≡ 64 = length-take-le 64 written h in
       let flags : fs ≡ map is_set bs =
-      ext_get_or false fs (map is_set bs) (omega (arith, length-map bs is_set)) (λ k h. each k (omega arith) ∙ sym (get_or-map is_set bs k 0 false (omega arith))) in
-      rw (le-ltb _ _ a.enough, le-ltb _ _ b.enough, flags, a.same, b.same)
-
-  -- one list, too short to be half a record
-  pub short_written : length written < 64 → refused (why 13 0) ≡ record_told values written
-  unfolding record_told
-  short_written h = rw (or_right (ltb (length values) 64) (lt-ltb _ _ h))
+      ext_get_or false fs (map is_set bs) (omega (arith, length-map bs is_set))
+      (λ k b. each k (omega arith) ∙ sym (get_or-map is_set bs k 0 false (omega arith) ∙ ap is_set (get_or-take 64 written k 0 (omega arith)))) in
+      rw flags
 
   -- a record that is told is theirs
   pub record_is : (g : Registers) → given g ≡ record_told values written → record_of values written ≡ g

@@ -4,7 +4,7 @@ ghost use Rattle.vombelishi.specs.Code.{answer_code};
 ghost use Rattle.vombelishi.specs.Pictures.{frame_call, frame_call_leaves, raster_call, raster_call_leaves};
 
 use crate::code::{answered, refused};
-use crate::record::record;
+use crate::record::Lists;
 use registers::units::Rasters;
 
 // All N·V cells; 13 for slices shorter than 64, then the setting's, 11, 13.
@@ -20,9 +20,9 @@ pub fn vom_frame(
         × (cells.new
         ≡ frame_call_leaves values.now written.now video.now cursor.now cells.old) }
 {
-    match record(values, written) {
+    match Lists::of(values, written) {
         Err(why) => refused(why),
-        Ok(g) => answered(frame::frame(g, video, cursor, cells)),
+        Ok(lists) => answered(frame::frame(lists.registers(), video, cursor, cells)),
     }
 }
 
@@ -40,8 +40,8 @@ pub fn vom_raster(
         × (cells.new
         ≡ raster_call_leaves values.now written.now video.now cursor.now y cells.old) }
 {
-    match record(values, written) {
+    match Lists::of(values, written) {
         Err(why) => refused(why),
-        Ok(g) => answered(frame::raster(g, video, cursor, Rasters(y), cells)),
+        Ok(lists) => answered(frame::raster(lists.registers(), video, cursor, Rasters(y), cells)),
     }
 }

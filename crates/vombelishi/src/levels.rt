@@ -6,7 +6,7 @@ ghost use Rattle.vombelishi.specs.Code.{answer_code, part_by};
 ghost use Rattle.vombelishi.specs.Pictures.{colour_call, colour_part, supremacy_part};
 
 use crate::code::refused;
-use crate::record::record;
+use crate::record::Lists;
 
 // The 12-bit colour of a logical pixel, and 1 where it has supremacy, else 0; 13 for slices shorter than 64.
 #[tactic(auto, unfolding(crate::specs::Pictures::colour_call))]
@@ -23,10 +23,10 @@ pub fn vom_colour(
         × (supremacy.new
         ≡ part_by (colour_call values.now written.now depth pixel) supremacy_part supremacy.old) }
 {
-    match record(values, written) {
+    match Lists::of(values, written) {
         Err(why) => refused(why),
-        Ok(g) => {
-            let shown = colours::colour(g, depth, pixel);
+        Ok(lists) => {
+            let shown = colours::colour(lists.registers(), depth, pixel);
             *colour = shown.colour;
             *supremacy = u8::from(shown.supremacy);
             0

@@ -7,8 +7,8 @@ ghost use Rattle.vombelishi.specs.Load.{accepted_told, accept_call, accept_value
 ghost use Rattle.vombelishi.specs.Load.{accept_sound_call, sound_values_leaves, sound_written_leaves, word_call, word_values_leaves, word_written_leaves};
 
 use crate::code::refused;
-use crate::record::record;
 use crate::put::store;
+use crate::record::Lists;
 use crate::settings::numbers;
 use refusals::Refusal;
 use registers::setting::Setting;
@@ -19,7 +19,7 @@ fn judge_list(values: &[u32], written: &[u8], words: &[u32]) -> Result<Setting, 
     ensures told { says result ≡ accepted_told values.now written.now words.now }
     ensures long { OnOk result ((64 ≤ length values.now) × (64 ≤ length written.now)) }
 {
-    let mut g = record(values, written)?;
+    let mut g = Lists::of(values, written)?.registers();
     g.load_and_check(words)
 }
 
@@ -29,7 +29,7 @@ fn judge_sound_list(values: &[u32], written: &[u8], words: &[u32]) -> Result<(),
     ensures told { says result ≡ accept_sound_call values.now written.now words.now }
     ensures long { OnOk result ((64 ≤ length values.now) × (64 ≤ length written.now)) }
 {
-    let mut g = record(values, written)?;
+    let mut g = Lists::of(values, written)?.registers();
     g.load_and_check_sound(words)
 }
 
@@ -38,7 +38,7 @@ fn judge_word(values: &[u32], written: &[u8], word: u32) -> Result<(), Refusal>
     ensures told { says result ≡ word_call values.now written.now word }
     ensures long { OnOk result ((64 ≤ length values.now) × (64 ≤ length written.now)) }
 {
-    let mut g = record(values, written)?;
+    let mut g = Lists::of(values, written)?.registers();
     g.load_word(word)
 }
 

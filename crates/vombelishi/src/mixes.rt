@@ -4,7 +4,7 @@ ghost use Rattle.vombelishi.specs.Code.{answer_code};
 ghost use Rattle.vombelishi.specs.Pictures.{mix_call, mix_call_leaves};
 
 use crate::code::{answered, refused};
-use crate::record::record;
+use crate::record::Lists;
 
 // The N mixed colours; 13 for slices shorter than 64, then the setting's, 13, 20.
 #[tactic(auto, unfolding(crate::specs::Pictures::mix_call, crate::specs::Pictures::mix_call_leaves))]
@@ -19,8 +19,8 @@ pub fn vom_mix(
         × (mixed.new
         ≡ mix_call_leaves values.now written.now cells.now camera.now mixed.old) }
 {
-    match record(values, written) {
+    match Lists::of(values, written) {
         Err(why) => refused(why),
-        Ok(g) => answered(mixing::mix(g, cells, camera, mixed)),
+        Ok(lists) => answered(mixing::mix(lists.registers(), cells, camera, mixed)),
     }
 }

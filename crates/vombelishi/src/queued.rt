@@ -6,7 +6,7 @@ ghost use Rattle.vombelishi.specs.Code.{answer_code, cell_by};
 ghost use Rattle.vombelishi.specs.Queued.{sync_call};
 
 use crate::code::refused;
-use crate::record::record;
+use crate::record::Lists;
 use queues::{Queue, Reply};
 
 // 0 video, 1 cursor, any other number sound.
@@ -49,10 +49,10 @@ pub fn vom_sync_ask(values: &[u32], written: &[u8], kind: u16, raster: u32, word
     ensures { (result ≡ answer_code (sync_call values.now written.now kind raster))
         × (words.new ≡ cell_by (sync_call values.now written.now kind raster) words.old) }
 {
-    match record(values, written) {
+    match Lists::of(values, written) {
         Err(why) => refused(why),
-        Ok(g) => {
-            *words = queues::syncs::sync_ask(g, kind, raster);
+        Ok(lists) => {
+            *words = queues::syncs::sync_ask(lists.registers(), kind, raster);
             0
         },
     }

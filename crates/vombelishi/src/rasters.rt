@@ -6,7 +6,7 @@ ghost use Rattle.vombelishi.specs.Pictures.{found_told, words_call, marks_call};
 
 use crate::code::{answered, refused};
 use crate::put::store;
-use crate::record::record;
+use crate::record::Lists;
 use refusals::Refusal;
 use registers::units::Rasters;
 use stretch::found::{Stretch, find};
@@ -15,7 +15,7 @@ use stretch::found::{Stretch, find};
 fn find_words(values: &[u32], written: &[u8], video: &[u32], y: u16) -> Result<Stretch, Refusal>
     ensures { says result ≡ found_told values.now written.now video.now y }
 {
-    find(record(values, written)?, video, Rasters(y))
+    find(Lists::of(values, written)?.registers(), video, Rasters(y))
 }
 
 // The first word of raster y and how many there are: 0 and 0 where it is not displayed.
@@ -48,7 +48,12 @@ fn count_marks(
 ) -> Result<u32, Refusal>
     ensures { says result ≡ marks_call values.now written.now video.now cursor.now threshold }
 {
-    marks::marks(record(values, written)?, video, cursor, threshold)
+    marks::marks(
+        Lists::of(values, written)?.registers(),
+        video,
+        cursor,
+        threshold,
+    )
 }
 
 // The mark count; 13 for slices shorter than 64, then the setting's, 11.

@@ -5,7 +5,7 @@ ghost use Rattle.vombelishi.specs.Code.{answer_code};
 ghost use Rattle.vombelishi.specs.Settings.{numbers_of, check_sound_call};
 
 use crate::code::{answered, refused};
-use crate::record::record;
+use crate::record::Lists;
 use registers::setting::Setting;
 
 #[tactic(auto, using(registers::proofs::Words::video_most, registers::proofs::Words::cursor_most), unfolding(crate::specs::Settings::numbers_of))]
@@ -43,8 +43,8 @@ pub(crate) fn numbers(s: Setting) -> [u32; 21]
 pub fn vom_check_sound(values: &[u32], written: &[u8]) -> u64
     ensures { result ≡ answer_code (check_sound_call values.now written.now) }
 {
-    match record(values, written) {
+    match Lists::of(values, written) {
         Err(why) => refused(why),
-        Ok(g) => answered(g.check_sound()),
+        Ok(lists) => answered(lists.registers().check_sound()),
     }
 }

@@ -5,7 +5,7 @@ ghost use Rattle.vombelishi.specs.Sounds.{sound_call, sound_leaves, counter_leav
 
 use crate::code::{answered, refused};
 use crate::put::store;
-use crate::record::record;
+use crate::record::Lists;
 
 // 8 values for each word. The cell holds the counter before the first byte, and afterwards that after the last.
 // 13 for slices shorter than 64, then 3, 10, 13 for `out`.
@@ -23,9 +23,9 @@ pub fn vom_sound(
         × (out.new
         ≡ sound_leaves values.now written.now words.now counter.old out.old) }
 {
-    match record(values, written) {
+    match Lists::of(values, written) {
         Err(why) => refused(why),
-        Ok(g) => answered(sound::play(g, words, counter, out)),
+        Ok(lists) => answered(sound::play(lists.registers(), words, counter, out)),
     }
 }
 

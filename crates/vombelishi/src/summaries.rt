@@ -4,7 +4,7 @@ ghost use Rattle.vombelishi.specs.Code.{answer_code};
 ghost use Rattle.vombelishi.specs.Summaries.{summaries_call, summaries_call_leaves, replace_call, video_call_leaves, replace_call_leaves};
 
 use crate::code::{answered, refused};
-use crate::record::record;
+use crate::record::Lists;
 
 // Three numbers to a displayed raster; 13 for slices shorter than 64, then the setting's, 11, 13.
 #[tactic(auto, unfolding(crate::specs::Summaries::summaries_call, crate::specs::Summaries::summaries_call_leaves))]
@@ -20,9 +20,17 @@ pub fn vom_summaries(
         × (entries.new
         ≡ summaries_call_leaves values.now written.now video.now cursor.now threshold entries.old) }
 {
-    match record(values, written) {
+    match Lists::of(values, written) {
         Err(why) => refused(why),
-        Ok(g) => { answered(marks::summaries::summaries(g, video, cursor, threshold, entries)) },
+        Ok(lists) => {
+            answered(marks::summaries::summaries(
+                lists.registers(),
+                video,
+                cursor,
+                threshold,
+                entries,
+            ))
+        },
     }
 }
 
@@ -45,10 +53,18 @@ pub fn vom_replace(
         × (entries.new
         ≡ replace_call_leaves values.now written.now video.old cursor.now threshold index word entries.old) }
 {
-    match record(values, written) {
+    match Lists::of(values, written) {
         Err(why) => refused(why),
-        Ok(g) => {
-            answered(marks::summaries::replace(g, video, cursor, threshold, index, word, entries))
+        Ok(lists) => {
+            answered(marks::summaries::replace(
+                lists.registers(),
+                video,
+                cursor,
+                threshold,
+                index,
+                word,
+                entries,
+            ))
         },
     }
 }

@@ -8,4 +8,5 @@ unfolding sound_call sound_leaves counter_leaves
 returns-in-Ok c =
     let made = c.in-Ok.ensures.told in
     let play = c.play.ensures in
-    (rw (← made, ← play.told) c.answered.ensures, rw (← made) play.counted, rw (← made, record_is _ _ _ made) play.left)
+    let g = c.registers.ensures in
+    (rw (← made, ← g, ← play.told) c.answered.ensures, rw (← made, ← g) play.counted, rw (← made, record_is _ _ _ made, ← g) play.left)

@@ -9,7 +9,7 @@ returns-then-n-eq0 c =
     let put = c.put_text-n.ensures in
     let none = c.if-n-eq0.true in
     let told = told_short c.args.file.now _ _ _ put none in
-    (rw told, rw told (left_short c.args.file.now _ _ _ put none), rw told)
+    (rw told c.refused.ensures, rw told (left_short c.args.file.now _ _ _ put none), rw told)
 
 pub returns : goal.returns
 unfolding text_leaves
