@@ -1,17 +1,12 @@
 -- For each public call, any two answers that its contract permits are the same, and any two states of lent memory.
 use mathlib.Core.Path.{refl, sym, ◌∙◌}
 use Rattle.buffers.proofs.Coincide.{OneAnswer, OneState}
-use Rattle.buffers.proofs.least.Kinds as least_kinds
-use Rattle.buffers.proofs.least.Reads as least_reads
 use Rattle.buffers.proofs.joined.Kinds as joined_kinds
 use Rattle.buffers.proofs.joined.Reads as joined_reads
 use Rattle.buffers.proofs.copy_words.Kinds as copy_words_kinds
 use Rattle.buffers.proofs.copy_words.Reads as copy_words_reads
 use Rattle.buffers.proofs.put_words.Kinds as put_words_kinds
 use Rattle.buffers.proofs.put_words.Reads as put_words_reads
-
-pub one_least : OneAnswer 0 least_kinds.ps least_kinds.r least_reads.Post
-one_least κs a x y s t p q = p ∙ sym q
 
 pub one_joined : OneAnswer 0 joined_kinds.ps joined_kinds.r joined_reads.Post
 one_joined κs a x y s t p q = p ∙ sym q

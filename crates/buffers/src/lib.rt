@@ -1,20 +1,10 @@
 // What lent memory holds, and the laws about it (specs/ and proofs/), for every crate above; and the little code that several of them share.
 #![tactic(auto)]
 
-ghost use Rattle.std.specs.Prelude.{◌≡◌, [], ◌∷◌, ◌+◌, ◌*◌, ◌-◌, ◌≤◌, min, length, take};
+ghost use Rattle.std.specs.Prelude.{◌≡◌, [], ◌∷◌, ◌+◌, ◌*◌, ◌-◌, ◌≤◌, length, take};
 ghost use Rattle.std.proofs.lemmas.List.Edits.{sets};
 ghost use Rattle.buffers.specs.Put.{text_in};
 ghost use Rattle.buffers.specs.Words.{word, words_of, bytes_of};
-
-// The lower of two numbers.
-pub fn least(a: usize, b: usize) -> usize
-    ensures { result ≡ min a b }
-{
-    if a < b {
-        return a;
-    }
-    b
-}
 
 // The word that four bytes make.
 pub fn joined(a: u8, b: u8, c: u8, d: u8) -> u32

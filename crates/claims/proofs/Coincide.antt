@@ -1,6 +1,6 @@
 -- Answers coincide: for every public call of every library, the theorem of its own contract, in one list.
 -- Of `raster_words` it says that any two answers read the same words at the same place.
-pub use Rattle.buffers.proofs.Unique.{one_least, one_joined, one_copy_words, one_put_words}
+pub use Rattle.buffers.proofs.Unique.{one_joined, one_copy_words, one_put_words}
 pub use Rattle.refusals.proofs.Unique.{one_number, one_detail, one_refuse_if}
 pub use Rattle.registers.proofs.Unique.{one_pixels, one_width_from, one_height_from, one_of_value, one_is_reserved}
 pub use Rattle.registers.proofs.Unique.{one_addresses, one_of_slots, one_new, one_store, one_palette, one_border, one_cursor_colour}
