@@ -1,3 +1,4 @@
 pub mod Sheet
 pub mod Input
 pub mod Lists
+pub mod inner

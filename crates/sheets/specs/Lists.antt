@@ -1,7 +1,8 @@
 -- A plate's four lists as a caller has them that took it apart.
-use Rattle.std.specs.Prelude.{ℕ, ◌≡◌, List}
+use Rattle.std.specs.Prelude.{ℕ, ◌+◌, ◌*◌, ◌≡◌, List}
+use Rattle.std.specs.Borrow.{Bor, MutBor}
 use Rattle.refusals.specs.Table.{given}
-use Rattle.sheets.specs.Sheet.{register_words, video_list, cursor_list, sound_list}
+use Rattle.sheets.specs.Sheet.{register_words, video_list, cursor_list, sound_list, parts_of}
 use Rattle.sheets.specs.Input.{input_told}
 use Rattle.sheets.specs.declared.sheet.Sheet.{Sheet}
 
@@ -12,3 +13,15 @@ pub record Lists (file : List ℕ) (s : Sheet) : Type 0 where
   pub video : s.video.now ≡ video_list file
   pub cursor : s.cursor.now ≡ cursor_list file
   pub sound : s.sound.now ≡ sound_list file
+
+-- A list that lies in lent memory behind some of its words: 4 bytes on for each.
+pub record Behind (lent : MutBor (List ℕ)) (list : Bor (List ℕ)) (words : ℕ) : Type 0 where
+  pub memory : list.ref_ptr.0 ≡ lent.ref_ptr.0
+  pub place : list.ref_ptr.1 ≡ lent.ref_ptr.1 + 4 * words
+
+-- So does each of the plate's, where its words stand among all.
+pub record Places (file : List ℕ) (lent : MutBor (List ℕ)) (s : Sheet) : Type 0 where
+  pub registers : Behind lent s.registers 0
+  pub video : Behind lent s.video (parts_of file).video
+  pub cursor : Behind lent s.cursor (parts_of file).cursor
+  pub sound : Behind lent s.sound (parts_of file).sound
