@@ -15,7 +15,7 @@ use Rattle.registers.specs.Accept.{accept_told}
 use Rattle.registers.specs.Rules.{Loadable, EveryRule}
 use Rattle.registers.specs.declared.record.Registers.{Registers}
 use Rattle.registers.specs.declared.setting.Setting.{Setting}
-use Rattle.registers.specs.declared.check.Checked.TheVariants.{Accepted}
+use Rattle.std.specs.Prelude.{Ok}
 use Rattle.registers.proofs.Told.{check_told_holds}
 use Rattle.registers.proofs.Halves.{load_halves, applied_halves}
 use Rattle.registers.proofs.Accepting.{accept_then, accept_second, accept_whole, accepted_both, accepts_exactly}
@@ -24,7 +24,7 @@ use Rattle.claims.specs.Views as call
 use Rattle.claims.specs.Views.{AcceptRun}
 use Rattle.claims.specs.Accept.{InHalves}
 use Rattle.claims.proofs.Tables.{by_table}
-use Rattle.claims.proofs.Runs.{lent}
+use Rattle.claims.proofs.Runs.{lent, lent_out}
 
 -- A list is accepted exactly when it can be loaded and the record that it leaves keeps every rule.
 pub accepted_exactly : Every call.load_and_check λ run.
@@ -121,14 +121,14 @@ accepted_stands κs a x s p κs' a' x' s' p' none start t e =
 -- Asked rightly, there is a run: what is said of every run is not said of none.
 pub accept_run : (g : Registers) (words : List ℕ) → Loadable words → EveryRule (applied g words)
     → Ran call.load_and_check (record { registers = g; words = words; answer = given (setting_of (applied g words)); handed = applied g words })
-unfolding lent
+unfolding lent lent_out
 accept_run g words l r =
     let told = (accepts_exactly g words).1 (l, r) in
     record {
-      lifetimes = ([], tt);
-      arguments = (g, (lent words, tt));
-      answer = record { registers = applied g words; checked = Accepted (setting_of (applied g words)) };
-      exit = (g, (lent words, tt));
+      lifetimes = ([], ([], tt));
+      arguments = (lent_out g, (lent words, tt));
+      answer = Ok (setting_of (applied g words));
+      exit = (lent_out (applied g words), (lent words, tt));
       promise = (sym told, rw told);
       is = refl;
     }

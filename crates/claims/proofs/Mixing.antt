@@ -10,7 +10,7 @@ use Rattle.buffers.specs.Painted.{painted}
 use Rattle.buffers.proofs.Paints.{Paints, paints_of}
 use Rattle.buffers.proofs.Values.{painted_values}
 use Rattle.refusals.specs.Table.{why, given, refused}
-use Rattle.refusals.specs.declared.Answer.TheVariants.{Done}
+use Rattle.std.specs.Prelude.{Ok}
 use Rattle.registers.specs.Setting.{setting_of}
 use Rattle.registers.specs.declared.record.Registers.{Registers}
 use Rattle.cells.specs.Cell.{cell}
@@ -105,7 +105,7 @@ unfolding lent lent_out
 mix_run g cells camera before r = record {
   lifetimes = ([], ([], ([], tt)));
   arguments = (g, (lent cells, (lent camera, (lent_out before, tt))));
-  answer = Done;
+  answer = Ok tt;
   exit = (g, (lent cells, (lent camera, (lent_out (mix_leaves g cells camera before), tt))));
   promise = (sym ((mix_exactly g cells camera (length before)).1 r), refl);
   is = refl;

@@ -13,7 +13,7 @@ use Rattle.buffers.proofs.Paints.{Paints, length_painted, paints_of}
 use Rattle.buffers.proofs.Split.{lt_or_le}
 use Rattle.buffers.proofs.Tests.{and_split, or_neither, no}
 use Rattle.refusals.specs.Table.{Told, Why, why, given, refused, row}
-use Rattle.refusals.specs.declared.Answer.TheVariants.{Done}
+use Rattle.std.specs.Prelude.{Ok}
 use Rattle.refusals.proofs.Tables.{passes_first, passes_given}
 use Rattle.registers.specs.Record.{one_of}
 use Rattle.registers.specs.Setting.{setting_of}
@@ -151,14 +151,14 @@ entry_replaced κs a x s p e =
     let g = run.registers in
     let told = sym p.0 ∙ e in
     let taken = replace_taken g run.video run.cursor run.index (length run.before) told in
-    let list = p.1 ∙ taken_video g run.video run.cursor run.threshold run.index run.word run.before told in
+    let list = p.1.0 ∙ taken_video g run.video run.cursor run.threshold run.index run.word run.before told in
     let left : (k : ℕ) → get_or run.after k 0
     ≡ get_or (replace_leaves g run.video run.cursor run.threshold run.index run.word run.before) k 0 =
-    λ k. ap (λ (l : List ℕ). get_or l k 0) p.2 in
+    λ k. ap (λ (l : List ℕ). get_or l k 0) p.1.1 in
     record {
       list = list;
       displays = word_displayed (setting_of g) taken.picture.accepted run.index taken.inside;
-      long = ap length (p.2 ∙ taken_numbers g run.video run.cursor run.threshold run.index run.word run.before told)
+      long = ap length (p.1.1 ∙ taken_numbers g run.video run.cursor run.threshold run.index run.word run.before told)
           ∙ length_painted run.before _ _ _;
       entry = has_entry g run.list run.cursor run.threshold (raster_in run) run.after
           (λ k l h. left k ∙ replaced_entry g run.video run.cursor run.threshold run.index run.word run.before told k l h ∙ rw list);
@@ -221,7 +221,7 @@ module _ (g : Registers) (cursor : List ℕ) (threshold : ℕ) (out : List ℕ) 
       let left = of_run call.replace (λ seen.
       (seen.list ≡ video_leaves seen.registers seen.video seen.cursor seen.index seen.word (length seen.before))
       × (seen.after ≡ replace_leaves seen.registers seen.video seen.cursor seen.threshold seen.index seen.word seen.before))
-      (λ κs a x s p. (p.1, p.2)) run r.ran in (
+      (λ κs a x s p. p.1) run r.ran in (
         left.0 ∙ rw (r.registers_are, r.video_is, r.cursor_is, r.numbers_are),
         left.1 ∙ rw (r.registers_are, r.video_is, r.cursor_is, r.threshold_is, r.numbers_are),
       )
@@ -276,7 +276,7 @@ unfolding lent lent_out
 summaries_run g video cursor threshold before r = record {
   lifetimes = ([], ([], ([], tt)));
   arguments = (g, (lent video, (lent cursor, (threshold, (lent_out before, tt)))));
-  answer = Done;
+  answer = Ok tt;
   exit = (g, (lent video, (lent cursor, (threshold, (lent_out (summaries_leaves g video cursor threshold before), tt)))));
   promise = (sym (summaries_given g video cursor threshold before (setting_of g) r.picture r.room), refl);
   is = refl;
@@ -303,8 +303,8 @@ replace_run g video cursor threshold index word before r here =
     record {
       lifetimes = ([], ([], ([], tt)));
       arguments = (g, (lent_out video, (lent cursor, (threshold, (index, (word, (lent_out before, tt)))))));
-      answer = Done;
+      answer = Ok tt;
       exit = (g, (lent_out (set video index word), (lent cursor, (threshold, (index, (word, (lent_out after, tt)))))));
-      promise = (sym told, sym (taken_video g video cursor threshold index word before told), refl);
+      promise = (sym told, (sym (taken_video g video cursor threshold index word before told), refl));
       is = refl;
     }

@@ -1,7 +1,7 @@
 -- Demand 1 for a plate that is taken apart, printed or played: its refusals, in the order 14, 13 of a file, and of standard input 15, 14, then those of
 -- load and check and 11, or 1, 2, 3 and 10, and what is written of it then. What is written of a plate is what is written of its own record and lists.
 use Prim.Native.Nat.{ℕ}
-use mathlib.Core.Path.{◌≡◌, refl, ◌∙◌, ap}
+use mathlib.Core.Path.{◌≡◌, refl, sym, ◌∙◌, ap}
 use mathlib.Core.List.{List, [], ◌∷◌, ◌++◌}
 use native.Mathlib.Omega.{arith}
 use lib.ListN.{length}
@@ -10,13 +10,14 @@ use lib.Seq.{sets}
 use borrow.Author.Tests.{eq-eqb, ne_eqb}
 use Rattle.buffers.specs.Pick.{pick}
 use Rattle.buffers.specs.Put.{Put, text_in}
-use Rattle.refusals.specs.Table.{Why, Told, given, refused, Row, First}
+use Rattle.refusals.specs.Table.{Why, Told, given, refused, Row, First, and_then, unless_refused}
 use Rattle.registers.specs.Setting.{setting_of}
 use Rattle.registers.specs.Sound.{sound_table, sound_told}
 use Rattle.registers.specs.declared.record.Registers.{Registers}
 use Rattle.plates.specs.Read.{copy_table, copy_told, copied}
-use Rattle.sheets.specs.Sheet.{registers_of}
-use Rattle.sheets.specs.Input.{input_table, input_told}
+use Rattle.sheets.specs.Sheet.{registers_of, parts_of, take_told}
+use Rattle.sheets.specs.Input.{input_table, input_told, take_input_told}
+use Rattle.sheets.proofs.Sheets.{take_then, input_then}
 use Rattle.cells.specs.Picture.{picture_table, picture_told}
 use Rattle.outputs.specs.Sheet.{sheet_table, sheet_told}
 use Rattle.outputs.specs.Text.{refused_line, picture_line, line_by, line_at, picture_text, text_of}
@@ -43,20 +44,32 @@ wave_numbers file = refl
 pub sheet_numbers : (file : List ℕ) → numbers (sheet_table file) ≡ 15 ∷ 14 ∷ 1 ∷ 2 ∷ (setting_numbers ++ (11 ∷ []))
 sheet_numbers file = refl
 
+-- What a refusal leaves does not hang on what would be given.
+same_left : {A B C : Type 0} (t : Told A) (b : B) (was then : C) → unless_refused (and_then t (λ _. given b)) was then ≡ unless_refused t was then
+same_left (given _) b was then = refl
+same_left (refused _) b was then = refl
+
 -- A plate is taken apart, or refused by its table, and then nothing changes.
 pub take_refuses : Every call.take λ run.
-    ByTable run.answer (copy_table run.file (length run.before)) tt × Kept run.answer run.before run.after
-unfolding copy_told
+    ByTable run.answer (copy_table run.file (length run.before)) (parts_of run.file) × Kept run.answer run.before run.after
+unfolding take_told
 take_refuses κs a x s p =
     let run : TakeRun = (call.take).seen κs a x s in
-    (by_table tt (copy_table run.file (length run.before)) p.0, kept (sets run.before 0 (copied run.file)) p.0 p.2)
+    let room = length run.before in
+    let then = sets run.before 0 (copied run.file) in
+    let left = p.1 ∙ sym (ap (λ u. unless_refused u run.before then) (take_then run.file room)
+        ∙ same_left (copy_told run.file room) (parts_of run.file) run.before then) in
+    (by_table (parts_of run.file) (copy_table run.file room) p.0, kept then p.0 left)
 
 pub take_input_refuses : Every call.take_input λ run.
-    ByTable run.answer (input_table run.file) tt × Kept run.answer run.before run.after
-unfolding input_told
+    ByTable run.answer (input_table run.file) (parts_of run.file) × Kept run.answer run.before run.after
+unfolding take_input_told
 take_input_refuses κs a x s p =
     let run : TakeRun = (call.take_input).seen κs a x s in
-    (by_table tt (input_table run.file) p.0, kept (sets run.before 0 (copied run.file)) p.0 p.2)
+    let then = sets run.before 0 (copied run.file) in
+    let left = p.1 ∙ sym (ap (λ u. unless_refused u run.before then) (input_then run.file)
+        ∙ same_left (input_told run.file) (parts_of run.file) run.before then) in
+    (by_table (parts_of run.file) (input_table run.file) p.0, kept then p.0 left)
 
 -- A plate is given its setting, or refused, by the printer's table.
 pub sheet_table_holds : (file : List ℕ) → ByTable (sheet_told file) (sheet_table file) (setting_of (registers_of file))

@@ -184,8 +184,8 @@ replace_refuses κs a x s p =
     let list = set run.video run.index run.word in
     let r = raster_of (setting_of g) run.index in (
       by_table tt _ (p.0 ∙ replace_told_holds g run.video run.cursor run.index (length run.before)),
-      kept list p.0 p.1,
-      kept (painted run.before (3 * r) (3 * r + 3) (entry_number g (setting_of g) list run.cursor run.threshold)) p.0 p.2,
+      kept list p.0 p.1.0,
+      kept (painted run.before (3 * r) (3 * r + 3) (entry_number g (setting_of g) list run.cursor run.threshold)) p.0 p.1.1,
     )
 
 -- Mixing.
@@ -224,8 +224,8 @@ pub play_refuses : Every call.play λ run.
 play_refuses κs a x s p =
     let run : PlayRun = (call.play).seen κs a x s in (
       by_table tt _ (p.0 ∙ play_told_holds run.registers (length run.words) (length run.before)),
-      kept (sets run.before 0 (played_of run.registers run.counter run.words)) p.0 p.2,
-      kept (counter_after run.counter (4 * length run.words)) p.0 p.1,
+      kept (sets run.before 0 (played_of run.registers run.counter run.words)) p.0 p.1.1,
+      kept (counter_after run.counter (4 * length run.words)) p.0 p.1.0,
     )
 
 pub pair_refuses : Every call.pair λ run. ByTable run.answer (pair_table run.stereo) (sides_of run.byte (run.stereo % 8))

@@ -11,7 +11,7 @@ use Rattle.buffers.proofs.Paints.{Paints, paints_of}
 use Rattle.refusals.specs.Table.{Told, given, unless_refused}
 use Rattle.registers.specs.Setting.{setting_of}
 use Rattle.registers.specs.declared.record.Registers.{Registers}
-use Rattle.refusals.specs.declared.Answer.TheVariants.{Done}
+use Rattle.std.specs.Prelude.{Ok}
 use Rattle.frame.specs.Frame.{cells, frame_cell, frame_told, frame_leaves}
 use Rattle.frame.proofs.Calls.{frame_given}
 use Rattle.claims.specs.Calls.{Call, Every, Ran}
@@ -52,9 +52,9 @@ of_run c holds every run r = subst holds r.is (every r.lifetimes r.arguments r.a
 unfoldable pub lent : List ℕ → Bor (List ℕ)
 lent l = record { ref_ptr = (0, 0); now = l }
 
--- A list as it is lent to be written.
-unfoldable pub lent_out : List ℕ → MutBor (List ℕ)
-lent_out l = record { ref_ptr = (0, 0); ghost_name = 0; now = l }
+-- A list or a record as it is lent to be written.
+unfoldable pub lent_out : {A : Type 0} → A → MutBor A
+lent_out a = record { ref_ptr = (0, 0); ghost_name = 0; now = a }
 
 -- Asked rightly, there is a run: what is said of every run is not said of none.
 pub right_runs : (g : Registers) (video cursor before : List ℕ) → Right g video cursor before
@@ -70,7 +70,7 @@ unfolding lent lent_out
 right_runs g video cursor before r = record {
   lifetimes = ([], ([], ([], tt)));
   arguments = (g, (lent video, (lent cursor, (lent_out before, tt))));
-  answer = Done;
+  answer = Ok tt;
   exit = (g, (lent video, (lent cursor, (lent_out (frame_leaves g video cursor before), tt))));
   promise = (sym (right_told r), refl);
   is = refl;

@@ -1,8 +1,7 @@
 -- What is seen of a run of each public call that claims speak of: its arguments, what it tells, lent memory before and after, by name.
 use Rattle.std.specs.Prelude.{ℕ, List, ℤ}
 use Rattle.refusals.specs.Table.{Why, Told}
-use Rattle.refusals.specs.Refusals.{answer_says, why_of}
-use Rattle.registers.specs.Check.{check_says}
+use Rattle.refusals.specs.Refusals.{says, why_of}
 use Rattle.registers.specs.declared.record.Registers.{Registers}
 use Rattle.registers.specs.declared.setting.Setting.{Setting}
 use Rattle.registers.proofs.record.Registers.load_word.Kinds as load_word_kinds
@@ -21,14 +20,12 @@ use Rattle.frame.proofs.raster.Kinds as raster_kinds
 use Rattle.frame.proofs.raster.Reads as raster_reads
 use Rattle.mixing.proofs.mix.Kinds as mix_kinds
 use Rattle.mixing.proofs.mix.Reads as mix_reads
-use Rattle.marks.specs.Marks.{marks_says}
 use Rattle.marks.proofs.marks.Kinds as marks_kinds
 use Rattle.marks.proofs.marks.Reads as marks_reads
 use Rattle.marks.proofs.summaries.summaries.Kinds as summaries_kinds
 use Rattle.marks.proofs.summaries.summaries.Reads as summaries_reads
 use Rattle.marks.proofs.summaries.replace.Kinds as replace_kinds
 use Rattle.marks.proofs.summaries.replace.Reads as replace_reads
-use Rattle.stretch.specs.Stretch.{found_says}
 use Rattle.stretch.specs.declared.found.Stretch.{Stretch}
 use Rattle.stretch.proofs.found.find.Kinds as find_kinds
 use Rattle.stretch.proofs.found.find.Reads as find_reads
@@ -36,14 +33,11 @@ use Rattle.stretch.proofs.raster_words.Kinds as words_kinds
 use Rattle.stretch.proofs.raster_words.Reads as words_reads
 use Rattle.stretch.proofs.raster_words_answer.Kinds as answer_kinds
 use Rattle.stretch.proofs.raster_words_answer.Reads as answer_reads
-use Rattle.sound.specs.Pair.{pair_says}
 use Rattle.sound.specs.declared.Sides.{Sides}
 use Rattle.sound.proofs.pair.Kinds as pair_kinds
 use Rattle.sound.proofs.pair.Reads as pair_reads
 use Rattle.sound.proofs.play.Kinds as play_kinds
 use Rattle.sound.proofs.play.Reads as play_reads
-use Rattle.plates.specs.Read.{read_says}
-use Rattle.plates.specs.Write.{write_says}
 use Rattle.plates.specs.declared.Sections.{Sections}
 use Rattle.plates.proofs.read.Kinds as read_kinds
 use Rattle.plates.proofs.read.Reads as read_reads
@@ -76,12 +70,12 @@ pub record LoadRun (W : Type 0) : Type 0 where
   pub loaded : Registers
 
 abbrev pub load_word : Call
-load_word = call 0 load_word_kinds.ps load_word_kinds.r load_word_reads.Post (LoadRun ℕ)
-    λ κs a x s. record { registers = a.0; words = a.1.0; answer = answer_says x.answer; loaded = x.registers }
+load_word = call 1 load_word_kinds.ps load_word_kinds.r load_word_reads.Post (LoadRun ℕ)
+    λ κs a x s. record { registers = a.0.now; words = a.1.0; answer = says x; loaded = s.0.now }
 
 abbrev pub load_and_check_sound : Call
-load_and_check_sound = call 1 load_and_check_sound_kinds.ps load_and_check_sound_kinds.r load_and_check_sound_reads.Post (LoadRun (List ℕ))
-    λ κs a x s. record { registers = a.0; words = a.1.0.now; answer = answer_says x.answer; loaded = x.registers }
+load_and_check_sound = call 2 load_and_check_sound_kinds.ps load_and_check_sound_kinds.r load_and_check_sound_reads.Post (LoadRun (List ℕ))
+    λ κs a x s. record { registers = a.0.now; words = a.1.0.now; answer = says x; loaded = s.0.now }
 
 -- Loading a list and checking what it leaves.
 pub record AcceptRun : Type 0 where
@@ -91,8 +85,8 @@ pub record AcceptRun : Type 0 where
   pub handed : Registers
 
 abbrev pub load_and_check : Call
-load_and_check = call 1 load_and_check_kinds.ps load_and_check_kinds.r load_and_check_reads.Post AcceptRun
-    λ κs a x s. record { registers = a.0; words = a.1.0.now; answer = check_says x.checked; handed = x.registers }
+load_and_check = call 2 load_and_check_kinds.ps load_and_check_kinds.r load_and_check_reads.Post AcceptRun
+    λ κs a x s. record { registers = a.0.now; words = a.1.0.now; answer = says x; handed = s.0.now }
 
 -- Judging a record for sound.
 pub record CheckRun : Type 0 where
@@ -101,7 +95,7 @@ pub record CheckRun : Type 0 where
 
 abbrev pub check_sound : Call
 check_sound = call 0 check_sound_kinds.ps check_sound_kinds.r check_sound_reads.Post CheckRun
-    λ κs a x s. record { registers = a.0; answer = answer_says x }
+    λ κs a x s. record { registers = a.0; answer = says x }
 
 -- Judging a picture: a record with its word lists.
 pub record PictureRun : Type 0 where
@@ -112,7 +106,7 @@ pub record PictureRun : Type 0 where
 
 abbrev pub judge : Call
 judge = call 2 judge_kinds.ps judge_kinds.r judge_reads.Post PictureRun
-    λ κs a x s. record { registers = a.0; video = a.1.0.now; cursor = a.1.1.0.now; answer = check_says x }
+    λ κs a x s. record { registers = a.0; video = a.1.0.now; cursor = a.1.1.0.now; answer = says x }
 
 -- The frame, one raster of it, and its mark count.
 pub record FrameRun : Type 0 where
@@ -129,7 +123,7 @@ frame = call 3 frame_kinds.ps frame_kinds.r frame_reads.Post FrameRun
       registers = a.0;
       video = a.1.0.now;
       cursor = a.1.1.0.now;
-      answer = answer_says x;
+      answer = says x;
       before = a.1.1.1.0.now;
       after = s.1.1.1.0.now;
     }
@@ -150,7 +144,7 @@ raster = call 3 raster_kinds.ps raster_kinds.r raster_reads.Post RasterRun
       video = a.1.0.now;
       cursor = a.1.1.0.now;
       raster = a.1.1.1.0.0;
-      answer = answer_says x;
+      answer = says x;
       before = a.1.1.1.1.0.now;
       after = s.1.1.1.1.0.now;
     }
@@ -170,7 +164,7 @@ mix = call 3 mix_kinds.ps mix_kinds.r mix_reads.Post MixRun
       registers = a.0;
       cells = a.1.0.now;
       camera = a.1.1.0.now;
-      answer = answer_says x;
+      answer = says x;
       before = a.1.1.1.0.now;
       after = s.1.1.1.0.now;
     }
@@ -184,7 +178,7 @@ pub record MarksRun : Type 0 where
 
 abbrev pub marks : Call
 marks = call 2 marks_kinds.ps marks_kinds.r marks_reads.Post MarksRun
-    λ κs a x s. record { registers = a.0; video = a.1.0.now; cursor = a.1.1.0.now; threshold = a.1.1.1.0; answer = marks_says x }
+    λ κs a x s. record { registers = a.0; video = a.1.0.now; cursor = a.1.1.0.now; threshold = a.1.1.1.0; answer = says x }
 
 -- Marks per raster made afresh, and kept where one word is replaced: `list` is what the video list holds after it.
 pub record SummariesRun : Type 0 where
@@ -203,7 +197,7 @@ summaries = call 3 summaries_kinds.ps summaries_kinds.r summaries_reads.Post Sum
       video = a.1.0.now;
       cursor = a.1.1.0.now;
       threshold = a.1.1.1.0;
-      answer = answer_says x;
+      answer = says x;
       before = a.1.1.1.1.0.now;
       after = s.1.1.1.1.0.now;
     }
@@ -229,7 +223,7 @@ replace = call 3 replace_kinds.ps replace_kinds.r replace_reads.Post ReplaceRun
       threshold = a.1.1.1.0;
       index = a.1.1.1.1.0;
       word = a.1.1.1.1.1.0;
-      answer = answer_says x;
+      answer = says x;
       list = s.1.0.now;
       before = a.1.1.1.1.1.1.0.now;
       after = s.1.1.1.1.1.1.0.now;
@@ -244,11 +238,11 @@ pub record StretchRun (A : Type 0) : Type 0 where
 
 abbrev pub find : Call
 find = call 1 find_kinds.ps find_kinds.r find_reads.Post (StretchRun Stretch)
-    λ κs a x s. record { registers = a.0; video = a.1.0.now; raster = a.1.1.0.0; answer = found_says x }
+    λ κs a x s. record { registers = a.0; video = a.1.0.now; raster = a.1.1.0.0; answer = says x }
 
 abbrev pub raster_words_answer : Call
 raster_words_answer = call 1 answer_kinds.ps answer_kinds.r answer_reads.Post (StretchRun (Unit {0}))
-    λ κs a x s. record { registers = a.0; video = a.1.0.now; raster = a.1.1.0.0; answer = answer_says x }
+    λ κs a x s. record { registers = a.0; video = a.1.0.now; raster = a.1.1.0.0; answer = says x }
 
 -- The words themselves. A list's place is its memory and the bytes before it there.
 pub record WordsRun : Type 0 where
@@ -281,13 +275,13 @@ pub record PlayRun : Type 0 where
   pub after : List ℤ
 
 abbrev pub play : Call
-play = call 2 play_kinds.ps play_kinds.r play_reads.Post PlayRun
+play = call 3 play_kinds.ps play_kinds.r play_reads.Post PlayRun
     λ κs a x s. record {
       registers = a.0;
       words = a.1.0.now;
-      counter = a.1.1.0;
-      answer = answer_says x.answer;
-      counted = x.counter;
+      counter = a.1.1.0.now;
+      answer = says x;
+      counted = s.1.1.0.now;
       before = a.1.1.1.0.now;
       after = s.1.1.1.0.now;
     }
@@ -298,7 +292,7 @@ pub record PairRun : Type 0 where
   pub answer : Told Sides
 
 abbrev pub pair : Call
-pair = call 0 pair_kinds.ps pair_kinds.r pair_reads.Post PairRun λ κs a x s. record { byte = a.0; stereo = a.1.0; answer = pair_says x }
+pair = call 0 pair_kinds.ps pair_kinds.r pair_reads.Post PairRun λ κs a x s. record { byte = a.0; stereo = a.1.0; answer = says x }
 
 -- Plate files: read, copied out, written.
 pub record ReadRun : Type 0 where
@@ -306,7 +300,7 @@ pub record ReadRun : Type 0 where
   pub answer : Told Sections
 
 abbrev pub read : Call
-read = call 1 read_kinds.ps read_kinds.r read_reads.Post ReadRun λ κs a x s. record { file = a.0.now; answer = read_says x }
+read = call 1 read_kinds.ps read_kinds.r read_reads.Post ReadRun λ κs a x s. record { file = a.0.now; answer = says x }
 
 pub record CopyRun : Type 0 where
   pub file : List ℕ
@@ -316,7 +310,7 @@ pub record CopyRun : Type 0 where
 
 abbrev pub copy_out : Call
 copy_out = call 2 copy_kinds.ps copy_kinds.r copy_reads.Post CopyRun
-    λ κs a x s. record { file = a.0.now; answer = answer_says x; before = a.1.0.now; after = s.1.0.now }
+    λ κs a x s. record { file = a.0.now; answer = says x; before = a.1.0.now; after = s.1.0.now }
 
 pub record WriteRun : Type 0 where
   pub registers : List ℕ
@@ -334,7 +328,7 @@ write = call 5 write_kinds.ps write_kinds.r write_reads.Post WriteRun
       video = a.1.0.now;
       cursor = a.1.1.0.now;
       sound = a.1.1.1.0.now;
-      answer = write_says x;
+      answer = says x;
       before = a.1.1.1.1.0.now;
       after = s.1.1.1.1.0.now;
     }
@@ -342,18 +336,17 @@ write = call 5 write_kinds.ps write_kinds.r write_reads.Post WriteRun
 -- A plate taken apart, from a file or from standard input.
 pub record TakeRun : Type 0 where
   pub file : List ℕ
-  pub answer : Told (Unit {0})
-  pub parts : Parts
+  pub answer : Told Parts
   pub before : List ℕ
   pub after : List ℕ
 
 abbrev pub take : Call
 take = call 2 take_kinds.ps take_kinds.r take_reads.Post TakeRun
-    λ κs a x s. record { file = a.0.now; answer = answer_says x.answer; parts = x.parts; before = a.1.0.now; after = s.1.0.now }
+    λ κs a x s. record { file = a.0.now; answer = says x; before = a.1.0.now; after = s.1.0.now }
 
 abbrev pub take_input : Call
 take_input = call 2 take_input_kinds.ps take_input_kinds.r take_input_reads.Post TakeRun
-    λ κs a x s. record { file = a.0.now; answer = answer_says x.answer; parts = x.parts; before = a.1.0.now; after = s.1.0.now }
+    λ κs a x s. record { file = a.0.now; answer = says x; before = a.1.0.now; after = s.1.0.now }
 
 -- What is written of a picture, its line or strip k or its whole text, and of a sound, its block k; and the line that refuses.
 pub record PictureLists : Type 0 where

@@ -11,15 +11,21 @@ put_number-x-requires c = omega (arith, c.requires.2, run_fits c.args.code c.arg
 
 pub bounds-out-x : goal.bounds-out-x
 bounds-out-x c =
-    omega (arith, c.requires.2, run_fits c.args.code c.args.n c.requires.0 c.requires.1, length_run c.args.code c.args.n, c.put_number-x.ensures.0, c.put_number-x.auto.out)
+    let fits = run_fits c.args.code c.args.n c.requires.0 c.requires.1 in
+    let first = c.put_number-x in
+    omega (arith, c.requires.2, fits, length_run c.args.code c.args.n, first.ensures.0, first.auto.out)
 
 pub overflow_add-x : goal.overflow_add-x
 overflow_add-x c =
-    omega (arith, c.requires.2, run_fits c.args.code c.args.n c.requires.0 c.requires.1, length_run c.args.code c.args.n, c.put_number-x.ensures.0, c.put_number-x.auto.out)
+    let fits = run_fits c.args.code c.args.n c.requires.0 c.requires.1 in
+    let first = c.put_number-x in
+    omega (arith, c.requires.2, fits, length_run c.args.code c.args.n, first.ensures.0, first.auto.out)
 
 pub put_number-requires : goal.put_number-requires
 put_number-requires c =
-    simp length-set (omega (arith, c.requires.2, run_fits c.args.code c.args.n c.requires.0 c.requires.1, length_run c.args.code c.args.n, c.put_number-x.ensures.0, c.put_number-x.auto.out))
+    let fits = run_fits c.args.code c.args.n c.requires.0 c.requires.1 in
+    let first = c.put_number-x in
+    simp length-set (omega (arith, c.requires.2, fits, length_run c.args.code c.args.n, first.ensures.0, first.auto.out))
 
 pub shape_of-out : goal.shape_of-out
 shape_of-out c = c.put_number.auto.out ∙ (simp length-set c.put_number-x.auto.out)
