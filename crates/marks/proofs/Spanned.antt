@@ -21,7 +21,7 @@ use Rattle.marks.specs.inner.Seen.{only, bytes_only, words_seen, Flagged, Masked
 use Rattle.marks.proofs.Flags.{only_at, flagged_as, flagged_join, flagged_one}
 use Rattle.marks.proofs.Held.{bit_on, bits_low, masked_none, masked_as, masked_or}
 use Rattle.marks.proofs.Tabled.{word_most}
-use Rattle.marks.proofs.Totals.{total_more, total_as, total_none, total_most, sums_more}
+use Rattle.marks.proofs.Totals.{sum_more, total_more, total_as, total_none, total_most, sums_more}
 
 pub bytes_only_holds : (d q : ℕ) → Tabled (bytes_only d q) 256 (byte_bright (only q) d)
 unfolding bytes_only
@@ -56,6 +56,9 @@ words_most bytes ws n m = total_most (word_bright_at bytes ws) 1020 n (λ k h. w
 
 pub span_most : {sum : ℕ} (bytes ws : List ℕ) (n : ℕ) → AtMost bytes 255 → n ≤ 512 → sum ≡ total (word_bright_at bytes ws) n → sum ≤ 1020 * 512
 span_most bytes ws n m l e = omega (arith, e, words_most bytes ws n m)
+
+-- What a loop over words by masks goes by.
+pub ruleset word_more = (sum_more, mask_more, words_most)
 
 -- Word j of the list's four i.
 pub four_at : (m : ℕ) (ws d : List ℕ) (i j : ℕ) → i < m → j < 4 → get_or (get_or (first_chunks 4 m ws) i d) j 0 ≡ get_or ws (4 * i + j) 0

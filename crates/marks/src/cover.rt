@@ -28,6 +28,7 @@ impl Judged<'_> {
     }
 
     // Cursor raster j: the sum over its 32 positions.
+    #[tactic(auto, using(crate::proofs::Totals::sum_more, crate::proofs::Covering::raster_small), unfolding(crate::specs::Count::total))]
     fn covered_in(&self, bright: &[u8; 256], j: usize) -> u32
         requires { j < length self.now.cursor.now / 2 }
         ensures { (result ≡ cursor_raster self.now.s self.now.video.now self.now.cursor.now bright.now j) × (result ≤ 8160) }
@@ -44,6 +45,7 @@ impl Judged<'_> {
     }
 
     // All that the cursor covers: two words a raster, and none where it is off.
+    #[tactic(auto, using(crate::proofs::Totals::sum_more, registers::proofs::Words::cursor_most), unfolding(crate::specs::Count::total))]
     pub fn covered(&self, bright: &[u8; 256]) -> u32
         ensures { result ≡ covered_all self.now.s self.now.video.now self.now.cursor.now bright.now }
     {

@@ -5,6 +5,7 @@ ghost use Rattle.marks.specs.inner.Seen.{pixels_for, flagged_entry};
 use crate::entry::Entry;
 
 // The entry with some count, by the flags of the first so many pixels.
+#[tactic(auto, unfolding(crate::specs::Extremes::least_of, crate::specs::Extremes::greatest_of))]
 fn entry_below<const END: usize>(greys: &[u8; 256], flags: &[u8; 256], count: u32) -> Entry
     requires { (END ≤ 256) × (count ≤ 2048) }
     ensures { result ≡ flagged_entry greys.now flags.now END count }

@@ -23,6 +23,7 @@ impl Judged<'_> {
     }
 
     // By whole words but where the cursor may cover.
+    #[tactic(auto, using(crate::proofs::Spread::raster_inside))]
     pub fn by_words(&self, tables: &Tables, r: usize) -> Entry
         requires { (r < self.now.s.vde.0 - self.now.s.vds.0) × (tables.now.depth ≡ self.now.s.depth) }
         ensures { result

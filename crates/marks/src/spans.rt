@@ -16,6 +16,7 @@ fn word_mask(masks: &[u32; 256], word: u32) -> u32
 }
 
 // By masks, for depths 1, 2 and 4: the table's sum, and a bit for each pixel that the words hold.
+#[tactic(auto, using(crate::proofs::Spanned::word_more), unfolding(crate::specs::Count::total, crate::specs::inner::Seen::words_mask))]
 fn masked_span(bytes: &[u32; 256], masks: &[u32; 256], words: &[u32]) -> (u32, u32)
     requires { AtMost bytes.now 255 × (length words.now ≤ 512) }
     ensures { (result.0 ≡ total (word_bright_at bytes.now words.now) (length words.now))
@@ -53,6 +54,7 @@ fn flag_word(word: u32, flags: &mut [u8; 256])
 }
 
 // By flags, for depth 8: a byte is a pixel.
+#[tactic(auto, using(crate::proofs::Spanned::words_most), unfolding(crate::specs::Count::total))]
 fn flagged_span(bytes: &[u32; 256], words: &[u32], flags: &mut [u8; 256]) -> u32
     requires { AtMost bytes.now 255 × (length words.now ≤ 512) }
     ensures { (result ≡ total (word_bright_at bytes.now words.now) (length words.now))

@@ -61,6 +61,7 @@ fn lit_pixels(greys: &[u8; 256], threshold: u8) -> [u8; 256]
 }
 
 // How many of a byte's pixels are bright.
+#[tactic(auto, using(crate::proofs::Masks::byte_most), unfolding(crate::specs::Count::total))]
 fn in_byte(pixels: &[u8; 256], depth: u32, byte: u8) -> u32
     requires { Depth depth × AtMost pixels.now 1 }
     ensures { result ≡ byte_bright pixels.now depth byte }

@@ -13,6 +13,7 @@ pub fn in_word(bytes: &[u32; 256], word: u32) -> u32
 }
 
 // The sum over all words, in four sums: one would have each word wait for the word before.
+#[tactic(auto, using(crate::proofs::Spanned::words_most), unfolding(crate::specs::Count::total))]
 pub fn in_words(bytes: &[u32; 256], words: &[u32]) -> u32
     requires { AtMost bytes.now 255 × (length words.now ≤ 0x8_0000) }
     ensures { result ≡ total (word_bright_at bytes.now words.now) (length words.now) }

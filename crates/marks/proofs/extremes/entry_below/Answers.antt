@@ -1,14 +1,9 @@
 -- A pixel more is its grey more among those that are flagged.
-use Rattle.std.proofs.Common.{refl, ◌≡◌, ◌∙◌}
-use Rattle.marks.specs.Extremes.{least_of, greatest_of}
+use Rattle.std.proofs.Common.{◌≡◌, ◌∙◌}
 use Rattle.marks.specs.inner.Seen.{flagged_grey}
 use Rattle.marks.proofs.Least.{least_more, greatest_more, flag_clear, flag_set}
 use Rattle.marks.proofs.extremes.entry_below.Goals as goal
 use Rattle.marks.proofs.extremes.entry_below.Goals.{then-flag-eq0, else-flag-eq0, then-flag-eq0-2, else-flag-eq0-2}
-
-pub loop-q-init : goal.loop-q-init
-unfolding least_of greatest_of
-loop-q-init g c = (refl, refl)
 
 pub loop-q-preserved : goal.loop-q-preserved
 loop-q-preserved g c =

@@ -1,22 +1,14 @@
 -- A word more is its bytes more, in the sum and among the flags.
-use Rattle.std.proofs.Common.{arith, refl}
+use Rattle.std.proofs.Common.{refl}
 use Rattle.marks.specs.Count.{total}
 use Rattle.marks.proofs.Flags.{flagged_none}
-use Rattle.marks.proofs.Spanned.{span_most, flags_more}
+use Rattle.marks.proofs.Spanned.{flags_more}
 use Rattle.marks.proofs.Totals.{sum_more}
 use Rattle.marks.proofs.spans.flagged_span.Goals as goal
 
 pub loop-word-init : goal.loop-word-init
 unfolding total
 loop-word-init c = (refl, flagged_none _ _ (λ q l. refl))
-
-pub overflow_add-count : goal.overflow_add-count
-overflow_add-count c =
-    omega (
-      arith,
-      c.in_word-count.ensures.1,
-      span_most c.args.bytes.now c.args.words.now c.loop-word.word-index c.requires.0 (omega arith) c.loop-word.invariant.0,
-    )
 
 pub loop-word-preserved : goal.loop-word-preserved
 loop-word-preserved c = (

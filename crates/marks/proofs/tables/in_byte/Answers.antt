@@ -1,24 +1,8 @@
 -- A pixel more is its entry more, and a byte has at most eight of them.
-use Rattle.std.proofs.Common.{arith, refl, ap, ◌∙◌, get_or, ◌≡◌, ◌/◌, ◌%◌, ◌*◌, ◌^◌}
-use native.Mathlib.Nat.{div-le_self}
-use Rattle.marks.proofs.Masks.{byte_most}
+use Rattle.std.proofs.Common.{arith, ap, ◌∙◌, get_or, ◌≡◌, ◌/◌, ◌%◌, ◌*◌, ◌^◌}
 use Rattle.marks.proofs.Totals.{sum_more}
-use Rattle.marks.specs.Count.{total}
 use Rattle.marks.specs.inner.Bright.{byte_bright, field_bright}
 use Rattle.marks.proofs.tables.in_byte.Goals as goal
-
-pub loop-j-init : goal.loop-j-init
-unfolding total
-loop-j-init c = refl
-
-pub overflow_add-sum : goal.overflow_add-sum
-overflow_add-sum c =
-    omega (
-      arith,
-      byte_most c.args.pixels.now c.args.depth c.args.byte c.loop-j.j c.requires.1,
-      c.requires.1.most c.low_bits.result,
-      div-le_self 8 c.args.depth,
-    )
 
 pub loop-j-preserved : goal.loop-j-preserved
 loop-j-preserved c =

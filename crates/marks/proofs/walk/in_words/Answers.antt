@@ -1,45 +1,16 @@
 -- Four words more are theirs in the four sums, and then a word more is its own in the first of them.
-use Rattle.std.proofs.Common.{arith, refl, ◌≡◌, ◌+◌, ◌*◌, ◌/◌, ◌∙◌, ap, length, get_or, get_or-drop}
+use Rattle.std.proofs.Common.{arith, ◌≡◌, ◌+◌, ◌*◌, ◌/◌, ◌∙◌, ap, length, get_or, get_or-drop}
 use Rattle.marks.specs.Count.{total}
 use Rattle.marks.specs.inner.Bright.{word_bright, word_bright_at}
-use Rattle.marks.proofs.Spanned.{words_most, fours_more}
+use Rattle.marks.proofs.Spanned.{fours_more}
 use Rattle.marks.proofs.Totals.{total_more}
 use Rattle.marks.proofs.walk.in_words.Goals as goal
-
-pub loop-w-init : goal.loop-w-init
-unfolding total
-loop-w-init c = refl
-
-pub overflow_add-a : goal.overflow_add-a
-overflow_add-a c =
-    omega (arith, c.loop-w.invariant, c.in_word-a.ensures.1, words_most c.args.bytes.now c.args.words.now (4 * c.loop-w.w-index) c.requires.0)
-
-pub overflow_add-b : goal.overflow_add-b
-overflow_add-b c =
-    omega (arith, c.loop-w.invariant, c.in_word-b.ensures.1, words_most c.args.bytes.now c.args.words.now (4 * c.loop-w.w-index) c.requires.0)
-
-pub overflow_add-c : goal.overflow_add-c
-overflow_add-c c =
-    omega (arith, c.loop-w.invariant, c.in_word-c.ensures.1, words_most c.args.bytes.now c.args.words.now (4 * c.loop-w.w-index) c.requires.0)
-
-pub overflow_add-d : goal.overflow_add-d
-overflow_add-d c =
-    omega (arith, c.loop-w.invariant, c.in_word-d.ensures.1, words_most c.args.bytes.now c.args.words.now (4 * c.loop-w.w-index) c.requires.0)
 
 pub loop-w-preserved : goal.loop-w-preserved
 loop-w-preserved c =
     fours_more c.args.bytes.now c.args.words.now _ c.as_chunks.result.0.now c.loop-w.a c.loop-w.b c.loop-w.c c.loop-w.d c.loop-w.w-index
     c.as_chunks.ensures.front (omega arith) c.loop-w.invariant c.in_word-a.ensures.0 c.in_word-b.ensures.0 c.in_word-c.ensures.0
     c.in_word-d.ensures.0
-
-pub overflow_add-a-in-loop-word : goal.overflow_add-a-in-loop-word
-overflow_add-a-in-loop-word c =
-    omega (
-      arith,
-      c.loop-word.invariant,
-      c.in_word-a-in-loop-word.ensures.1,
-      words_most c.args.bytes.now c.args.words.now (4 * (length c.args.words.now / 4) + c.loop-word.word-index) c.requires.0,
-    )
 
 pub loop-word-preserved : goal.loop-word-preserved
 loop-word-preserved c =
@@ -53,15 +24,3 @@ loop-word-preserved c =
     c.in_word-a-in-loop-word.ensures.0 ∙ ap (word_bright c.args.bytes.now) word in
     let next : 4 * n + (k + 1) ≡ 4 * n + k + 1 = omega arith in
     omega (arith, c.loop-word.invariant, here, total_more f (4 * n + k), ap (total f) next)
-
-pub overflow_add-result : goal.overflow_add-result
-overflow_add-result c =
-    omega (arith, c.loop-word.invariant, words_most c.args.bytes.now c.args.words.now (4 * (length c.args.words.now / 4) + c.loop-word.word-index) c.requires.0)
-
-pub overflow_add-result-2 : goal.overflow_add-result-2
-overflow_add-result-2 c =
-    omega (arith, c.loop-word.invariant, words_most c.args.bytes.now c.args.words.now (4 * (length c.args.words.now / 4) + c.loop-word.word-index) c.requires.0)
-
-pub overflow_add-result-3 : goal.overflow_add-result-3
-overflow_add-result-3 c =
-    omega (arith, c.loop-word.invariant, words_most c.args.bytes.now c.args.words.now (4 * (length c.args.words.now / 4) + c.loop-word.word-index) c.requires.0)

@@ -7,18 +7,6 @@ use Rattle.marks.proofs.Showing.{raster_few}
 use Rattle.marks.proofs.Spread.{raster_inside, row_parts, parts_shown, parts_seen}
 use Rattle.marks.proofs.judged.Judged.by_words.Goals as goal
 
-pub overflow_mul-first : goal.overflow_mul-first
-overflow_mul-first c = omega (arith, raster_inside _ _ c.args.self.now.judged c.requires.0 c.raster_words-words.ensures)
-
-pub overflow_add-row : goal.overflow_add-row
-overflow_add-row c = omega (arith, raster_inside _ _ c.args.self.now.judged c.requires.0 c.raster_words-words.ensures)
-
-pub offset_bounds-self-first : goal.offset_bounds-self-first
-offset_bounds-self-first c = omega (arith, raster_inside _ _ c.args.self.now.judged c.requires.0 c.raster_words-words.ensures)
-
-pub slice_bounds-row-end : goal.slice_bounds-row-end
-slice_bounds-row-end c = omega (arith, raster_inside _ _ c.args.self.now.judged c.requires.0 c.raster_words-words.ensures)
-
 pub overflow_mul-from : goal.overflow_mul-from
 overflow_mul-from c = rw c.from-per.ensures (omega (arith, part_inside _ c.args.self.now.judged.accepted c.cursor_part-part.ensures))
 

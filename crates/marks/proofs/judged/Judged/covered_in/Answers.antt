@@ -1,19 +1,11 @@
 -- A cursor raster: nothing where it is not displayed; else a position more is its count more.
-use Rattle.std.proofs.Common.{arith, refl, ◌≡◌, ◌+◌, sym, ◌∙◌}
+use Rattle.std.proofs.Common.{arith, ◌≡◌, ◌+◌, sym, ◌∙◌}
 use borrow.Author.Tests.{ltb-true, leb-true}
 use Rattle.registers.proofs.Order.{below, at_most}
-use Rattle.marks.proofs.Covering.{raster_out, raster_small}
-use Rattle.marks.proofs.Totals.{sum_more}
+use Rattle.marks.proofs.Covering.{raster_out}
 use Rattle.marks.specs.inner.Bright.{raster_bright, cursor_raster}
-use Rattle.marks.specs.Count.{total}
 use Rattle.marks.proofs.judged.Judged.covered_in.Goals as goal
 use Rattle.marks.proofs.judged.Judged.covered_in.Goals.{then-lt-via-then-lt, then-lt-via-else-lt+then-le}
-
-pub overflow_cast-y : goal.overflow_cast-y
-overflow_cast-y c = omega (arith, raster_small _ _ _ c.args.self.now.judged c.requires)
-
-pub overflow_add-y : goal.overflow_add-y
-overflow_add-y c = omega (arith, raster_small _ _ _ c.args.self.now.judged c.requires)
 
 pub returns-then-lt : goal.returns-then-lt
 returns-then-lt c =
@@ -30,13 +22,6 @@ returns-then-lt c =
           ]),
       omega arith,
     )
-
-pub loop-i-init : goal.loop-i-init
-unfolding total
-loop-i-init c = (refl, omega arith)
-
-pub loop-i-preserved : goal.loop-i-preserved
-loop-i-preserved c = (sum_more _ _ c.loop-i.invariant.0 c.covered_at-sum.ensures.0, omega arith)
 
 pub returns : goal.returns
 unfolding cursor_raster raster_bright
