@@ -1,4 +1,5 @@
-// Letters and labelled numbers in lent memory: the head and the refusal line.
+// Letters and labelled numbers in lent memory: the head and the refusal line. Memory and place go along as two parameters: of a value that lends
+// both, each clause would also have to say that it still lends the same memory.
 ghost use Rattle.std.specs.Prelude.{◌+◌, ◌≤◌, length};
 ghost use Rattle.buffers.specs.Put.{Put};
 ghost use Rattle.refusals.specs.Refusals.{why_of};
