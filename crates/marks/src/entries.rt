@@ -13,6 +13,7 @@ pub fn put_entry(out: &mut [u16], r: usize, entry: Entry)
     requires { 3 * r + 3 ≤ length out.old }
     ensures { out.new ≡ painted out.old (3 * r) (3 * r + 3) (λ k. number_of entry (k % 3)) }
 {
+    // One by one: must-fail/least_kept leaves out the second.
     out[3 * r] = entry.count;
     out[3 * r + 1] = entry.least;
     out[3 * r + 2] = entry.greatest;
