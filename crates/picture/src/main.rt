@@ -7,6 +7,7 @@ use standard_plate::{Failure, Room};
 use std::io;
 
 // All strips, up to the first that is empty. No frame has more than 1,024 rasters; the head comes before them.
+// It stays beside the loop of `printer`, as is said there.
 fn show(rt: &impl Print, g: Registers, video: &[u32], cursor: &[u32]) -> io::Result<()> {
     for k in 0..1025 {
         let mut bytes = [0; 6144];

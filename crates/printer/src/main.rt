@@ -6,6 +6,7 @@ use standard_plate::{Failure, Room};
 use std::io;
 
 // The lines of the picture's text, up to the first that is empty. No frame has more than 1,024 rasters; the head comes before them.
+// `picture` and `wave` have such a loop too: one function for all would have a `requires` on its closure, and no public call has one.
 fn print(rt: &impl Print, g: Registers, video: &[u32], cursor: &[u32]) -> io::Result<()> {
     for k in 0..1025 {
         let mut text = [0; 8256];

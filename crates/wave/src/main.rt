@@ -6,6 +6,7 @@ use standard_plate::{Failure, Room};
 use std::io;
 
 // All blocks, up to the first that is empty: the head, and at most 64 of samples.
+// It stays beside the loop of `printer`, as is said there.
 fn play(rt: &impl Print, g: Registers, sound: &[u32]) -> io::Result<()> {
     for k in 0..65 {
         let mut bytes = [0; 4096];
