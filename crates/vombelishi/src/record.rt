@@ -25,7 +25,7 @@ impl<'a> Lists<'a> {
             (λ why. refusal why ≡ record_told values.now written.now) }
         ensures long { OnOk result ((64 ≤ length values.now) × (64 ≤ length written.now)) }
     {
-        if (values.len() < 64) | (written.len() < 64) {
+        if values.len() < 64 || written.len() < 64 {
             return Err(Refusal::Short);
         }
         Ok(Lists { values, written })
@@ -36,10 +36,10 @@ impl<'a> Lists<'a> {
     {
         let mut numbers = [0; 64];
         numbers.copy_from_slice(&self.values[..64]);
-        let mut flags = [false; 64];
-        for (k, flag) in flags.iter_mut().enumerate() {
+        let mut g = Registers::of_slots(numbers, [false; 64]);
+        for (k, flag) in g.written.iter_mut().enumerate() {
             *flag = self.written[k] != 0;
         }
-        Registers::of_slots(numbers, flags)
+        g
     }
 }
