@@ -12,9 +12,7 @@ fn entry_below<const END: usize>(greys: &[u8; 256], flags: &[u8; 256], count: u3
 {
     let mut least: u8 = 255;
     let mut greatest: u8 = 0;
-    // By index: over the two tables zipped no vectors are made, and all entries at depth 8 take 27 to 66 % more instructions.
-    for q in 0..END {
-        let (flag, grey) = (flags[q], greys[q]);
+    for (&grey, &flag) in greys[..END].iter().zip(&flags[..END]) {
         least = least.min(if flag == 0 { 255 } else { grey });
         greatest = greatest.max(if flag == 0 { 0 } else { grey });
     }
