@@ -58,7 +58,7 @@ take_refuses κs a x s p =
     let room = length run.before in
     let then = sets run.before 0 (copied run.file) in
     let left = p.1 ∙ sym (ap (λ u. unless_refused u run.before then) (take_then run.file room)
-        ∙ same_left (copy_told run.file room) (parts_of run.file) run.before then) in
+    ∙ same_left (copy_told run.file room) (parts_of run.file) run.before then) in
     (by_table (parts_of run.file) (copy_table run.file room) p.0, kept then p.0 left)
 
 pub take_input_refuses : Every call.take_input λ run.
@@ -68,7 +68,7 @@ take_input_refuses κs a x s p =
     let run : TakeRun = (call.take_input).seen κs a x s in
     let then = sets run.before 0 (copied run.file) in
     let left = p.1 ∙ sym (ap (λ u. unless_refused u run.before then) (input_then run.file)
-        ∙ same_left (input_told run.file) (parts_of run.file) run.before then) in
+    ∙ same_left (input_told run.file) (parts_of run.file) run.before then) in
     (by_table (parts_of run.file) (input_table run.file) p.0, kept then p.0 left)
 
 -- A plate is given its setting, or refused, by the printer's table.
