@@ -10,11 +10,11 @@ use crate::pixels::low_bits;
 use colours::{entries, grey, shown};
 use registers::record::Registers;
 
-// By pixel: its grey, and 1 where that is at or above the threshold, else 0.
+// By pixel: 1 where its grey is at or above the threshold, else 0; and the grey.
 #[derive(Drop)]
 pub struct Shades {
-    pub greys: [u8; 256],
     pub bright: [u8; 256],
+    pub greys: [u8; 256],
     ghost few: { AtMost bright 1 },
 }
 
@@ -88,8 +88,10 @@ impl Shades {
         ensures bright { Tabled result.bright 256 (bright g depth threshold) }
     {
         let greys = greys_of(g, depth);
-        let bright = lit_pixels(&greys, threshold);
-        Shades { greys, bright }
+        Shades {
+            bright: lit_pixels(&greys, threshold),
+            greys,
+        }
     }
 }
 
