@@ -22,7 +22,7 @@ pub fn apply(registers: Registers, words: &[u32]) -> Registers
 {
     let mut g = registers;
     for word in words {
-        g = g.store(*word);
+        g.put(*word);
     }
     g
 }

@@ -9,8 +9,8 @@ use refusals::{Refusal, refuse_if};
 // Two arrays and not one of `Option<u32>`: what an unwritten slot holds is read too (specs/Record:held_in), and C lends the two.
 #[derive(Clone, Copy, PartialEq, Eq)]
 pub struct Registers {
-    pub values: [u32; 64],
-    pub written: [bool; 64],
+    pub values: [u32; Registers::SLOTS],
+    pub written: [bool; Registers::SLOTS],
 }
 
 // The slot that a word names, by its highest six bits.
@@ -34,7 +34,7 @@ pub fn is_reserved(slot: u32) -> bool
 
 impl Registers {
     // The record of what each slot holds, and whether it was written.
-    pub fn of_slots(values: [u32; 64], written: [bool; 64]) -> Registers
+    pub fn of_slots(values: [u32; Self::SLOTS], written: [bool; Self::SLOTS]) -> Registers
         ensures { result ≡ registers_by values written }
     {
         Registers { values, written }
@@ -44,20 +44,27 @@ impl Registers {
     pub fn new() -> Registers
         ensures { result ≡ fresh }
     {
-        Self::of_slots([0u32; 64], [false; 64])
+        Self::of_slots([0u32; Self::SLOTS], [false; Self::SLOTS])
     }
 
-    // One word stored: the record with that register changed, or as it came where the address is reserved.
+    // One word stored where the record lies: that register is changed, or nothing where the address is reserved.
     #[tactic(auto, unfolding(crate::specs::Record::stored_of))]
-    pub fn store(mut self, word: u32) -> Registers
-        ensures { result ≡ stored_of self word }
+    pub(crate) fn put(&mut self, word: u32)
+        ensures { self.new ≡ stored_of self.old word }
     {
         if is_reserved(slot_of(word)) {
-            return self;
+            return;
         }
         let slot = slot_of(word) as usize;
         self.values[slot] = word % 0x100_0000;
         self.written[slot] = true;
+    }
+
+    // One word stored: the record with that register changed, or as it came where the address is reserved.
+    pub fn store(mut self, word: u32) -> Registers
+        ensures { result ≡ stored_of self word }
+    {
+        self.put(word);
         self
     }
 
@@ -68,7 +75,7 @@ impl Registers {
         ensures left { self.new ≡ unless_refused (word_told word) self.old (stored_of self.old word) }
     {
         refuse_if(is_reserved(slot_of(word)), Refusal::Reserved(0))?;
-        *self = self.store(word);
+        self.put(word);
         Ok(())
     }
 }
