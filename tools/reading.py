@@ -82,7 +82,7 @@ def functions(text):
         returns = re.compile(r"\s*->\s*([^{]*?)\s*(?=\{|\b(?:ghost|requires|ensures)\b)").match(text, end)
         end = returns.end() if returns else end
         clauses = []
-        while clause := re.compile(r"\s*(ghost|requires|ensures)\s*(?:\w+\s*)?\{").match(text, end):
+        while clause := re.compile(r"\s*(ghost|requires|ensures)\*?\s*(?:\w+:?\s*)?\{").match(text, end):
             end = closed(text, clause.end() - 1)
             clauses.append((clause.group(1), line(text[clause.end():end - 1])))
         header = line(text[found.start(3):end])

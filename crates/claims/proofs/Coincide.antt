@@ -21,7 +21,7 @@ pub use Rattle.sound.proofs.Unique.{one_pair, one_play}
 pub use Rattle.plates.proofs.Unique.{one_read_holds, one_copy_out, one_write}
 pub use Rattle.pictures.proofs.Unique.{one_guns, one_colours, one_head_is_whole, one_head_is_open, one_head_next}
 pub use Rattle.waves.proofs.Unique.{one_head, one_samples}
-pub use Rattle.sheets.proofs.Unique.{one_take, one_take_input, one_of_input}
+pub use Rattle.sheets.proofs.Unique.{one_take, one_take_input, one_of_input, one_of_input_end}
 pub use Rattle.outputs.proofs.Unique.{one_line, one_refused, one_text, one_strip, one_block}
 pub use Rattle.vombelishi.proofs.Unique.{one_vom_read, one_vom_copy, one_vom_write, one_vom_colour, one_vom_grey, one_vom_pin, one_vom_load_and_check}
 pub use Rattle.vombelishi.proofs.Unique.{one_vom_load_word, one_vom_frame, one_vom_raster, one_vom_raster_words, one_vom_marks, one_vom_load_and_check_sound}

@@ -8,7 +8,7 @@ use lib.Dec.{ltb}
 use lib.ListN.{length, length-take, length-drop}
 use lib.Seq.{sets, length-sets}
 use borrow.Author.Tests.{lt-ltb, le-ltb, ltb-false}
-use Rattle.refusals.specs.Table.{Why, why, Told, given, refused, row, judged, and_then, Passes}
+use Rattle.refusals.specs.Table.{Why, why, Told, given, refused, row, judged, and_then, unless_refused, Passes}
 use Rattle.refusals.proofs.Tables.{passed, given_passes, judged_then, never}
 use Rattle.plates.specs.Plate.{right, r_of}
 use Rattle.plates.specs.Read.{read_told, copy_table, copy_told, copied}
@@ -140,9 +140,23 @@ module _ (file : List ℕ) (p : Parts) (t : given p ≡ take_input_told file) wh
       let n : new ≡ sets o 0 (copied file) = left ∙ rw g in
       rw (input_given.1, n) (held file o (input_right file g) (omega (arith, few_words file g)))
 
+  -- as many words as were lent are left
+  pub input_room : (o new : List ℕ) → new ≡ input_leaves file o → 16384 ≤ length new → 16384 ≤ length o
+  input_room o new left room =
+      let n : new ≡ sets o 0 (copied file) = left ∙ rw input_given.0 in
+      rw (n, length-sets) at room
+
 pub input_refused : (file : List ℕ) (w : Why) → refused w ≡ take_input_told file → input_told file ≡ refused w
 input_refused file w t = go (input_told file) refl (t ∙ input_then file)
   where
     go : (u : Told (Unit {0})) → input_told file ≡ u → refused w ≡ and_then u (λ _. given (parts_of file)) → input_told file ≡ refused w
     go (given _) e q = never (sym q)
     go (refused v) e q = let same : w ≡ v = cc in e ∙ ap refused (sym same)
+
+-- what a caller that lends its words on needs: there are as many as before, refused or not
+pub input_length : (file o new : List ℕ) → new ≡ input_leaves file o → length new ≡ length o
+input_length file o new left = go (input_told file) left
+  where
+    go : (u : Told (Unit {0})) → new ≡ unless_refused u o (sets o 0 (copied file)) → length new ≡ length o
+    go (given _) e = ap length e ∙ length-sets o 0 (copied file)
+    go (refused w) e = ap length e

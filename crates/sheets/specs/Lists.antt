@@ -1,6 +1,7 @@
 -- A plate's four lists as a caller has them that took it apart.
-use Rattle.std.specs.Prelude.{ℕ, ◌+◌, ◌*◌, ◌≡◌, List}
-use Rattle.std.specs.Borrow.{Bor, MutBor}
+use Rattle.std.specs.Prelude.{ℕ, ◌+◌, ◌*◌, ◌≡◌, List, ⊤}
+use Rattle.std.specs.Borrow.{Bor, MutBor, Fml, Array, u32, follows_so}
+use mathlib.Core.Option.{none}
 use Rattle.refusals.specs.Table.{given}
 use Rattle.sheets.specs.Sheet.{register_words, video_list, cursor_list, sound_list, parts_of}
 use Rattle.sheets.specs.Input.{input_told}
@@ -25,3 +26,7 @@ pub record Places (file : List ℕ) (lent : MutBor (List ℕ)) (s : Sheet) : Typ
   pub video : Behind lent s.video (parts_of file).video
   pub cursor : Behind lent s.cursor (parts_of file).cursor
   pub sound : Behind lent s.sound (parts_of file).sound
+
+-- What the lent words hold once the lists are no longer read, and after a refusal.
+abbrev pub Leaves : MutBor (List ℕ) → List ℕ → Fml
+Leaves lent left = follows_so (Array u32 16384) (Array u32 16384) lent.ghost_name none (λ _ _. ⊤) (λ last. last ≡ left)
