@@ -12,11 +12,15 @@ use registers::record::Registers;
 // How many words a block has.
 const BLOCK: usize = 256;
 
-// The words of block k, from 0, of which the last may have fewer; none past it.
+// The words of block k, from 0, of which the last may have fewer; none past it. The blocks before it are not walked.
 fn part(words: &[u32], k: usize) -> Option<&[u32]>
     ensures { MatchOption result (length words.now ≤ 256 * k) (λ part. (256 * k < length words.now) × (part.now ≡ take 256 (drop (256 * k) words.now))) }
 {
-    words.chunks(BLOCK).nth(k)
+    if words.len().div_ceil(BLOCK) <= k {
+        return None;
+    }
+    let rest = &words[BLOCK * k..];
+    Some(&rest[..BLOCK.min(rest.len())])
 }
 
 // The samples of at most a block of words.
