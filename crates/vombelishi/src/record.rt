@@ -36,10 +36,10 @@ impl<'a> Lists<'a> {
     {
         let mut numbers = [0; 64];
         numbers.copy_from_slice(&self.values[..64]);
-        let mut g = Registers::of_slots(numbers, [false; 64]);
-        for (k, flag) in g.written.iter_mut().enumerate() {
+        let mut flags = [false; 64];
+        for (k, flag) in flags.iter_mut().enumerate() {
             *flag = self.written[k] != 0;
         }
-        g
+        Registers::of_slots(numbers, flags)
     }
 }

@@ -15,5 +15,5 @@ loop-k-preserved c =
 pub returns : goal.returns
 returns c =
     let l = c.loop-k in
-    rw (c.of_slots-g.ensures, c.copy_from_slice.ensures.after)
+    rw (c.of_slots.ensures, c.copy_from_slice.ensures.after)
     (record_made c.args.self.values.now c.args.self.written.now _ l.invariant.long (omega arith) (λ k h. l.invariant.each k (omega arith)))
