@@ -56,39 +56,49 @@ fn named(rt: &(impl Files<File = File> + Env)) -> io::Result<File> {
     }
 }
 
+// The same, or what is wrong with it.
+pub fn opened(rt: &(impl Files<File = File> + Env)) -> Result<File, Fault> {
+    named(rt).map_err(Fault::Unread)
+}
+
 // An open file, and the width and height that its picture must have.
-#[derive(Drop)]
-pub struct Camera {
-    file: File,
+#[derive(Clone, Copy)]
+pub struct Camera<'a> {
+    pub file: &'a File,
     pub n: u16,
     pub v: u16,
     ghost fits: { n ≤ 2048 },
 }
 
-impl Camera {
+impl<'a> Camera<'a> {
     // The camera picture for a frame of a size, found right from end to end; the first raster is read next.
-    pub fn of(rt: &(impl Files<File = File> + Env), n: u16, v: u16) -> Result<Camera, Fault>
+    pub fn of(file: &'a File, n: u16, v: u16) -> Result<Camera<'a>, Fault>
         requires { n ≤ 2048 }
     {
-        let file = named(rt).map_err(Fault::Unread)?;
-        let mut camera = Camera { file, n, v };
+        let camera = Camera { file, n, v };
         camera.check()?;
         Ok(camera)
     }
 
+    // The next bytes, and how many there are.
+    fn read_some(self, bytes: &mut [u8]) -> io::Result<usize> {
+        let mut file = self.file;
+        file.read(bytes)
+    }
+
     // Why it is not right: a failure, which a read shows again, or what is in it.
-    fn fault(&mut self) -> Fault {
+    fn fault(self) -> Fault {
         let mut probe = [0; 1];
-        match self.file.read(&mut probe) {
+        match self.read_some(&mut probe) {
             Ok(_) => Fault::Wrong(self.n, self.v),
             Err(error) => Fault::Unread(error),
         }
     }
 
     // A head with the file's next byte; where there is none it is wrong.
-    fn head_after(&mut self, head: Head) -> Head {
+    fn head_after(self, head: Head) -> Head {
         let mut byte = [0; 1];
-        match self.file.read(&mut byte) {
+        match self.read_some(&mut byte) {
             Ok(1) => head.next(byte[0], self.n, self.v),
             _ => Head::Wrong,
         }
@@ -96,7 +106,7 @@ impl Camera {
 
     // Reads a right head, byte by byte, so that the first raster comes next. Nothing says that a file ends: there are more turns than any
     // run uses up.
-    fn read_head(&mut self) -> Result<(), Fault> {
+    fn read_head(self) -> Result<(), Fault> {
         let mut head = Head::Empty;
         for _ in 0..u64::MAX {
             if !head.is_open() {
@@ -112,37 +122,40 @@ impl Camera {
     }
 
     // The next raster's colours, in the first places.
-    pub fn raster(&mut self, colours: &mut [u16]) -> Result<(), Fault> {
+    pub fn raster(self, colours: &mut [u16]) -> Result<(), Fault> {
+        let mut file = self.file;
         let mut bytes = [0; 6144];
         let raster = &mut bytes[..3 * usize::from(self.n)];
-        if self.file.read_exact(raster).is_ok() && pictures::read::colours(raster, colours) {
+        if file.read_exact(raster).is_ok() && pictures::read::colours(raster, colours) {
             return Ok(());
         }
         Err(self.fault())
     }
 
     // Reads all rasters; nothing is behind them.
-    fn read_rasters(&mut self) -> Result<(), Fault> {
+    fn read_rasters(self) -> Result<(), Fault> {
         let mut colours = [0; 2048];
         for _ in 0..self.v {
             self.raster(&mut colours)?;
         }
         let mut probe = [0; 1];
-        match self.file.read(&mut probe) {
+        match self.read_some(&mut probe) {
             Ok(0) => Ok(()),
             _ => Err(self.fault()),
         }
     }
 
     // Goes back to a place, where it is known.
-    fn go_back(&mut self, place: io::Result<u64>) -> io::Result<u64> {
-        self.file.seek(SeekFrom::Start(place?))
+    fn go_back(self, place: io::Result<u64>) -> io::Result<u64> {
+        let mut file = self.file;
+        file.seek(SeekFrom::Start(place?))
     }
 
     // Reads it from end to end, and goes back to the first raster.
-    fn check(&mut self) -> Result<(), Fault> {
+    fn check(self) -> Result<(), Fault> {
         self.read_head()?;
-        let first = self.file.stream_position();
+        let mut file = self.file;
+        let first = file.stream_position();
         self.read_rasters()?;
         self.go_back(first).map_err(Fault::NotTwice)?;
         Ok(())

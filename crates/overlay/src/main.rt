@@ -4,7 +4,7 @@
 
 mod camera;
 
-use camera::{Camera, Fault};
+use camera::{Camera, Fault, opened};
 use cells::judge;
 use refusals::Refusal;
 use registers::record::Registers;
@@ -65,7 +65,7 @@ fn show_raster(
     rt: &impl Print,
     g: Registers,
     sheet: Sheet<'_>,
-    camera: &mut Camera,
+    camera: Camera<'_>,
     y: u16,
 ) -> Result<(), Stop> {
     let mut colours = [0; 2048];
@@ -83,11 +83,11 @@ fn show_over(
     rt: &impl Print,
     g: Registers,
     sheet: Sheet<'_>,
-    mut camera: Camera,
+    camera: Camera<'_>,
 ) -> Result<(), Stop> {
     show_head(rt, g, sheet)?;
     for y in 0..camera.v {
-        show_raster(rt, g, sheet, &mut camera, y)?;
+        show_raster(rt, g, sheet, camera, y)?;
     }
     Ok(())
 }
@@ -99,7 +99,8 @@ fn show_judged(
     sheet: Sheet<'_>,
 ) -> Result<(), Stop> {
     let s = judge(g, sheet.video, sheet.cursor)?;
-    let camera = Camera::of(rt, s.n.0, s.v.0)?;
+    let file = opened(rt)?;
+    let camera = Camera::of(&file, s.n.0, s.v.0)?;
     show_over(rt, g, sheet, camera)
 }
 
