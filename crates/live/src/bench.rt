@@ -1,6 +1,6 @@
 // The bench around one video queue: which call each tick makes, and what is noted of each raster.
 ghost use Rattle.std.specs.Prelude.{◌≡◌};
-ghost use Rattle.live.specs.Table.{word_or, byte_or, row_at};
+ghost use Rattle.live.specs.Table.{word_or, byte_or, row_at, row_since};
 ghost use Rattle.live.specs.Bench.{
   one_read,
   is_own,
@@ -98,7 +98,9 @@ fn row_at(told: &[Row], raster: u32) -> Row
 
 impl Row {
     // The totals at a raster's end without those at the end of the raster before it.
-    pub fn since(self, before: Row) -> Row {
+    pub fn since(self, before: Row) -> Row
+        ensures { result ≡ row_since self before }
+    {
         Row {
             asked: self.asked.saturating_sub(before.asked),
             loaded: self.loaded.saturating_sub(before.loaded),
