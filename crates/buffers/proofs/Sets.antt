@@ -30,6 +30,16 @@ module _ {A : Type 0} where
   sets_past l [] i h = refl
   sets_past l (v ∷ vs) i h = rw (set_out l i v h) (sets_past l vs (suc i) (omega arith))
 
+  -- four stores in a row
+  pub sets_four :
+      (l : List A) (at : ℕ) (a b c d : A)
+      → set (set (set (set l at a) (at + 1) b) (at + 2) c) (at + 3) d ≡ sets l at (a ∷ b ∷ c ∷ d ∷ [])
+  sets_four l at a b c d =
+      let p : at + 1 ≡ suc at = omega arith in
+      let q : at + 2 ≡ suc (suc at) = omega arith in
+      let r : at + 3 ≡ suc (suc (suc at)) = omega arith in
+      rw (p, q, r)
+
   -- a range written over
   pub sets_range :
       (l vs : List A) {ys : List A} (at n : ℕ) → at + length vs ≤ length l → n ≡ length vs → ys ≡ vs → put_mid at n l ys ≡ sets l at vs

@@ -1,7 +1,8 @@
 -- The two calls from the judged picture on: the picture's table with the rows behind it is the call's own, and what is given is painted.
-use Prim.Native.Nat.{ℕ, ◌≤◌, ◌<◌}
+use Prim.Native.Nat.{ℕ, ◌*◌, ◌≤◌, ◌<◌}
 use mathlib.Core.Path.{◌≡◌, sym, ◌∙◌}
 use mathlib.Core.List.{List, [], ◌∷◌}
+use native.Mathlib.Nat.{mul-le-mul}
 use borrow.Author.Tests.{le-ltb, lt-leb}
 use lib.Dec.{ltb, leb}
 use lib.ListN.{length}
@@ -11,10 +12,15 @@ use Rattle.refusals.proofs.Tables.{and_then_judged}
 use Rattle.registers.specs.Setting.{setting_of}
 use Rattle.registers.specs.declared.record.Registers.{Registers}
 use Rattle.registers.specs.declared.setting.Setting.{Setting}
+use Rattle.registers.specs.inner.Accepted.{Accepted}
 use Rattle.cells.specs.Picture.{picture_table, picture_told}
 use Rattle.cells.proofs.Pictures.{picture_told_holds, picture_setting}
 use Rattle.frame.specs.Frame.{cells, frame_cell, frame_told, frame_leaves, raster_cell, raster_told, raster_leaves}
 use Rattle.frame.proofs.Told.{frame_told_holds, raster_told_holds}
+
+-- An accepted setting's frame has at most 2048 by 1024 cells.
+pub cells_most : (s : Setting) → Accepted s → cells s ≤ 2048 * 1024
+cells_most s a = mul-le-mul {n₂ = 2048} {m₂ = 1024} a.n_most a.v_most
 
 module _ (g : Registers) (video cursor o : List ℕ) where
   -- First what the picture tells, then 13.
@@ -33,6 +39,11 @@ module _ (g : Registers) (video cursor o : List ℕ) where
     pub frame_held : cells s ≤ length o → frame_leaves g video cursor o ≡ painted o 0 (cells s) (frame_cell g s video cursor)
     unfolding frame_leaves
     frame_held h = rw (frame_given h, ← picture_setting g video cursor s e)
+
+    -- Cells so painted are what the call tells and leaves.
+    pub frame_painted : (p : List ℕ) → cells s ≤ length o → p ≡ painted o 0 (cells s) (frame_cell g s video cursor)
+        → (given tt ≡ frame_told g video cursor (length o)) × (p ≡ frame_leaves g video cursor o)
+    frame_painted p h q = (sym (frame_given h), rw (frame_held h) q)
 
   module _ (y : ℕ) where
     -- First what the picture tells, then 12 and 13.

@@ -8,6 +8,7 @@ use native.Mathlib.Omega.{arith}
 use lib.ListN.{length, take, drop, length-take, length-drop}
 use Rattle.registers.specs.Setting.{raster_words}
 use Rattle.registers.specs.declared.setting.Setting.{Setting}
+use Rattle.registers.specs.inner.Accepted.{Accepted}
 use Rattle.cells.specs.Pixel.{first_word}
 use Rattle.cells.specs.inner.Known.{Picture}
 use Rattle.cells.proofs.PixelPlaces.{per_least, past_bytes, past_pixels, byte_part}
@@ -44,3 +45,14 @@ module _ {s : Setting} {video cursor : List ℕ} (r : Picture s video cursor) (y
 
 pub part_length : (m first : ℕ) (video : List ℕ) → first + m ≤ length video → length (take m (drop first video)) ≡ m
 part_length m first video h = simp (length-take, length-drop) (omega arith)
+
+-- A raster's words as they are handed on, from `first` up to `last`, and what room their cells take.
+module _ (s : Setting) (r : Accepted s) (video o : List ℕ) (at y ds first last : ℕ) (room : at + s.n.0 ≤ length o) (e_ds : ds ≡ s.ds.0)
+    (e_first : first ≡ first_word s y) (e_last : last ≡ first + raster_words s) (fits : first_word s y + raster_words s ≤ length video) where
+  part_count : last - first ≡ raster_words s
+  part_count = omega arith
+
+  pub shown_room : at + ds + length (take (last - first) (drop first video)) * (32 / s.depth) ≤ length o
+  shown_room =
+      rw (part_count, e_first, e_ds, part_length (raster_words s) (first_word s y) video fits, whole_pixels s r)
+      (omega (arith, r.ds_de, r.de_be, r.be_n))

@@ -1,7 +1,7 @@
 -- Cells outside the display: stretch by stretch, in a line, and from one raster to the next.
 use Prim.Native.Nat.{ℕ, ◌+◌, ◌<◌, ◌≤◌}
 use mathlib.Core.Bool.{false, true≢false, ◌||◌}
-use mathlib.Core.Path.{◌≡◌, sym, ◌∙◌}
+use mathlib.Core.Path.{◌≡◌, refl, sym, ◌∙◌}
 use mathlib.Core.List.{List}
 use mathlib.Core.Logic.{inl, inr}
 use native.Mathlib.Omega.{arith}
@@ -74,6 +74,13 @@ same_above m y h =
       | inl l ↦ lt-leb m (y + 1) (elim (lt_or_le (y + 1) m) [ inl g ↦ g | inr e ↦ absurd (no (omega arith)) ]) ∙ sym (lt-leb m y l)
       | inr g ↦ le-leb m (y + 1) (omega arith) ∙ sym (le-leb m y g)
     ]
+
+-- The first line is made anew, whatever it held.
+pub first_edged : (s : Setting) (pens line : List ℕ) (first : ℕ) → anew s first first ≡ false → Edged s pens first line
+first_edged s pens line first e =
+    let p = or_neither (eqb first first || eqb first s.vs.0 || eqb first s.vbs.0) (eqb first s.vbe.0) e in
+    let q = or_neither (eqb first first || eqb first s.vs.0) (eqb first s.vbs.0) p.0 in
+    absurd (eqb-false first first (or_neither (eqb first first) (eqb first s.vs.0) q.0).0 refl)
 
 module _ (s : Setting) (pens : List ℕ) (first y : ℕ) (same : anew s first (y + 1) ≡ false) where
   edge_next : (x : ℕ) → edge_ink s pens (y + 1) x ≡ edge_ink s pens y x

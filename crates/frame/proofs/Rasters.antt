@@ -1,8 +1,8 @@
 -- A raster is the cursor over plain cells; rasters one after another.
 use Prim.Native.Nat.{ℕ, ◌+◌, ◌*◌, ◌-◌, ◌<◌, ◌≤◌}
-use mathlib.Core.Path.{◌≡◌, ap, ◌∙◌}
+use mathlib.Core.Path.{◌≡◌, sym, ap, ◌∙◌}
 use mathlib.Core.List.{List}
-use native.Mathlib.Nat.{mul-le-mul_right}
+use native.Mathlib.Nat.{mul-le-mul_right, zero-mul}
 use native.Mathlib.Omega.{arith}
 use lib.Arith.{digits_div, digits_mod}
 use lib.ListN.{length, get_or}
@@ -43,6 +43,9 @@ module _ (s : Setting) (r : Accepted s) (pens line table video cursor o p q : Li
       over = paints_of {d = 0} {f = cover_ink s pens cursor y p} (omega (arith, room, under.len)) f
 
 -- Where a raster starts among those from the first on.
+pub no_place : (first n : ℕ) → 0 ≡ (first - first) * n
+no_place first n = let q : first - first ≡ 0 = omega arith in rw q (sym (zero-mul n))
+
 room_for : (m e n : ℕ) → m < e → m * n + n ≤ n * e
 room_for m e n h = omega (arith, mul-le-mul_right n h)
 

@@ -40,6 +40,10 @@ use Rattle.frame.specs.Frame.{cells, frame_cell, raster_cell}
 pub count_is : (d : ℕ) → d ≤ 8 → (1 * 2 ^ d) % 2 ^ 64 ≡ 2 ^ d
 count_is d h = rw (one-mul (2 ^ d)) (mod-eq_of_lt (omega (arith, pow_mono h)))
 
+-- There are at most 256.
+pub count_most : (d : ℕ) → d ≤ 8 → (1 * 2 ^ d) % 2 ^ 64 ≤ 256
+count_most d h = rw (count_is d h) (omega (arith, pow_mono h))
+
 -- The cells by the palette's entries.
 module _ (g : Registers) (palette : List ℕ) (d p : ℕ) (e : palette ≡ entries_of g) where
   pub entry_shade_holds : entry_shade palette d p ≡ shade g d p

@@ -3,18 +3,20 @@ use Prim.Native.Nat.{ℕ, ◌+◌, ◌-◌, ◌≤◌}
 use mathlib.Core.Bool.{true, false, true≢false}
 use mathlib.Core.Path.{◌≡◌, sym, ◌∙◌}
 use mathlib.Core.List.{List}
+use mathlib.Core.Logic.{inl, inr}
 use native.Mathlib.Omega.{arith}
+use borrow.Author.Tests.{lt-ltb, le-ltb}
 use lib.ListN.{length, get_or, take, length-take, get_or-eq_default}
 use Rattle.std.proofs.lemmas.List.{get_or-take}
 use Rattle.buffers.specs.Painted.{painted}
-use Rattle.buffers.proofs.Split.{is_false}
+use Rattle.buffers.proofs.Split.{lt_or_le, is_false}
 use Rattle.buffers.proofs.Paints.{Paints, paint_as, paint_next, paints_painted}
 use Rattle.registers.specs.declared.setting.Setting.{Setting}
 use Rattle.registers.specs.inner.Accepted.{Accepted}
 use Rattle.cells.specs.Cell.{within, in_display}
 use Rattle.cells.specs.inner.Region.{InDisplay}
 use Rattle.cells.proofs.Regions.{within_true, true_within, display_inside, inside_display}
-use Rattle.frame.specs.inner.Ink.{display_ink, lined_ink}
+use Rattle.frame.specs.inner.Ink.{display_ink, lined_ink, blank_of}
 
 module _ (s : Setting) (r : Accepted s) (line table video : List ℕ) (y : ℕ) where
   -- Positions that the display does not reach, from the line.
@@ -56,3 +58,7 @@ module _ (s : Setting) (r : Accepted s) (line table video : List ℕ) (y : ℕ) 
         let right = paint_as ink (λ x a b. rw from (here s.de.0 x a) ∙ lined x (λ i. omega (arith, i.right))) g in
         paints_painted {d = 0} {f = ink} (omega (arith, room))
         (paint_next {d = 0} (omega arith) (omega (arith, r.de_be, r.be_n)) (paint_next {d = 0} (omega arith) (omega (arith, r.ds_de)) left mid) right)
+
+-- A cell outside border and horizontal sync is at most that of vertical sync.
+pub blank_most : (s : Setting) (y : ℕ) → blank_of s y ≤ 16384
+blank_most s y = elim (lt_or_le y s.vs.0) [ inl h ↦ rw (lt-ltb y s.vs.0 h) (omega arith) | inr h ↦ rw (le-ltb y s.vs.0 h) (omega arith) ]

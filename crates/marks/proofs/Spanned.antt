@@ -1,14 +1,15 @@
 -- The pixels of whole words: by masks, by flags, and as a sum, word after word; the mask and the flags tell of the same pixels.
 use Prim.Native.Nat.{ℕ, zero, suc, ◌+◌, ◌*◌, ◌/◌, ◌%◌, ◌^◌, ◌<◌, ◌≤◌}
+use mathlib.Core.Bool.{Bool, true, false}
 use mathlib.Core.List.{List, []}
 use mathlib.Core.Logic.{inl, inr}
 use mathlib.Core.Path.{◌≡◌, refl, sym, ◌∙◌, ap}
 use native.Mathlib.Nat.{zero-add, div-one, mod-lt, mod-eq_of_lt}
 use native.Mathlib.Numerals.{add-one}
 use native.Mathlib.Omega.{arith}
-use borrow.Author.Tests.{lt-ltb, le-ltb, ne_eqb}
+use borrow.Author.Tests.{lt-ltb, le-ltb, ne_eqb, eqb-true, eqb-false}
 use lib.Bits.{bit_or}
-use lib.Dec.{ltb}
+use lib.Dec.{ltb, eqb}
 use lib.ListN.{length, get_or, set, replicate, drop}
 use Rattle.std.specs.Simd.{first_chunks}
 use Rattle.std.proofs.Common.{get_or-take, get_or-drop}
@@ -18,7 +19,7 @@ use Rattle.buffers.proofs.Paints.{Paints, paints_of}
 use Rattle.marks.specs.Count.{total, bit}
 use Rattle.marks.specs.inner.Bright.{Tabled, AtMost, field, field_bright, byte_bright, word_bright, word_bright_at}
 use Rattle.marks.specs.inner.Seen.{only, bytes_only, words_seen, Flagged, Masked, Masks, word_mask, words_mask, mask_times}
-use Rattle.marks.proofs.Flags.{only_at, flagged_as, flagged_join, flagged_one}
+use Rattle.marks.proofs.Flags.{only_at, flagged_none, flagged_as, flagged_join, flagged_one}
 use Rattle.marks.proofs.Held.{bit_on, bits_low, masked_none, masked_as, masked_or}
 use Rattle.marks.proofs.Tabled.{word_most}
 use Rattle.marks.proofs.Totals.{sum_more, total_more, total_as, total_none, total_most, sums_more}
@@ -98,6 +99,43 @@ flagged_word flags w e =
 -- The bits of a mask below n, as times.
 abbrev pub times_below : ℕ → ℕ → ℕ → ℕ
 times_below mask n q = pick (ltb q n) (mask / 2 ^ q % 2) 0
+
+-- Below 0 there are none; one more of them is set or clear.
+pub bits_none : (mask : ℕ) (flags : List ℕ) → Flagged flags flags (times_below mask 0)
+bits_none mask flags = flagged_none flags (times_below mask 0) (λ q l. rw (le-ltb q 0 (omega arith)))
+
+times_more : (mask n q : ℕ) → q < 256 → times_below mask (n + 1) q ≡ times_below mask n q + mask / 2 ^ n % 2 * get_or (only q) n 0
+times_more mask n q l = rw (only_at q n l) (by (eqb n q) refl)
+  where
+    same : (n ≡ q → ⊥) → ltb q (n + 1) ≡ ltb q n
+    same h =
+        elim (lt_or_le q n) [
+          | inl m ↦ lt-ltb q (n + 1) (omega arith) ∙ sym (lt-ltb q n m)
+          | inr m ↦ le-ltb q (n + 1) (omega arith) ∙ sym (le-ltb q n m)
+        ]
+
+    by : (t : Bool) → eqb n q ≡ t → times_below mask (n + 1) q ≡ times_below mask n q + mask / 2 ^ n % 2 * bit t
+    by true e = rw (eqb-true n q e, lt-ltb q (q + 1) (omega arith), le-ltb q q (omega arith)) (omega arith)
+    by false e = rw (same (eqb-false n q e)) (omega arith)
+
+pub bit_set : {old flags : List ℕ} (mask n : ℕ) → length flags ≡ 256 → n < 256 → mask / 2 ^ n % 2 ≡ 1
+    → Flagged old flags (times_below mask n) → Flagged old (set flags n 1) (times_below mask (n + 1))
+bit_set {old} {flags} mask n e l b f =
+    flagged_as
+    (λ q h.
+    let more : times_below mask n q + get_or (only q) n 0 ≡ times_below mask (n + 1) q = rw (times_more mask n q h, b) (omega arith) in
+    ap (ltb 0) more)
+    (flagged_join f (flagged_one flags n e l))
+
+pub bit_clear : {old flags : List ℕ} (mask n : ℕ) → (mask / 2 ^ n % 2 ≡ 1 → ⊥) → Flagged old flags (times_below mask n)
+    → Flagged old flags (times_below mask (n + 1))
+bit_clear mask n b f =
+    let clear : mask / 2 ^ n % 2 ≡ 0 = elim (lt_or_le (mask / 2 ^ n % 2) 1) [ inl l ↦ omega arith | inr l ↦ absurd (b (omega arith)) ] in
+    flagged_as
+    (λ q h.
+    let more : times_below mask n q ≡ times_below mask (n + 1) q = rw (times_more mask n q h, clear) (omega arith) in
+    ap (ltb 0) more)
+    f
 
 module _ (masks : List ℕ) (d : ℕ) (m : Masks masks d) where
   word_masked : (w : ℕ) → Masked (word_mask masks w) (λ q. word_bright (bytes_only d q) w)

@@ -1,5 +1,5 @@
 -- Laws of sums: term by term, in parts, in rows, and within a window outside of which nothing counts.
-use Prim.Native.Nat.{ℕ, zero, suc, ◌+◌, ◌*◌, ◌<◌, ◌≤◌}
+use Prim.Native.Nat.{ℕ, zero, suc, ◌+◌, ◌-◌, ◌*◌, ◌<◌, ◌≤◌}
 use mathlib.Core.Path.{◌≡◌, refl, ap, ◌∙◌}
 use native.Mathlib.Nat.{add_assoc, zero-add, add-zero, add-suc, suc-mul, zero-mul}
 use native.Mathlib.Numerals.{add-one}
@@ -34,6 +34,10 @@ pub total_split : (f : ℕ → ℕ) (a b : ℕ) → total f (a + b) ≡ total f 
 unfolding total
 total_split f a zero = rw (add-zero, add-zero)
 total_split f a (suc b) = rw (add-suc, total_split f a b, add_assoc)
+
+-- A sum up to a, and the rest of it.
+pub parts_total : {sum rest : ℕ} (f : ℕ → ℕ) (a n : ℕ) → a ≤ n → sum ≡ total f a → rest ≡ total (λ k. f (a + k)) (n - a) → sum + rest ≡ total f n
+parts_total f a n l e h = rw (e, h, ← total_split f a (n - a)) (ap (total f) (omega arith))
 
 -- Four sums, each with an element more.
 pub sums_more : (a b c d : ℕ) {v w x y : ℕ} (f : ℕ → ℕ) (n : ℕ) → a + b + c + d ≡ total f n

@@ -1,7 +1,7 @@
 -- The call from the check on: refused with the setting, refused by a row of its own, or laid. The setting's table with those rows behind
 -- it is the call's own, and where the call is refused the lent answer is as it was.
 use Prim.Native.Nat.{ℕ, ◌+◌, ◌-◌, ◌<◌, ◌≤◌}
-use mathlib.Core.Bool.{Bool, false, ◌||◌}
+use mathlib.Core.Bool.{Bool, true, false, ◌||◌}
 use mathlib.Core.List.{List, ◌++◌}
 use mathlib.Core.Path.{◌≡◌, refl, sym, ap, ◌∙◌}
 use native.Mathlib.Omega.{arith}
@@ -20,7 +20,7 @@ use Rattle.registers.specs.Setting.{setting_of}
 use Rattle.registers.specs.declared.record.Registers.{Registers}
 use Rattle.registers.specs.declared.setting.Setting.{Setting}
 use Rattle.registers.proofs.Told.{check_told_holds, check_then}
-use Rattle.mixing.specs.Mix.{mix_rows, mix_table, mix_told, mix_leaves, mixed_at}
+use Rattle.mixing.specs.Mix.{first_too_large, mix_rows, mix_table, mix_told, mix_leaves, mixed_at}
 use Rattle.mixing.specs.inner.First.{AllFew, FirstLarge}
 use Rattle.mixing.proofs.Numbers.{all_few, first_at}
 
@@ -31,6 +31,10 @@ module _ (n : ℕ) (cells camera : List ℕ) (room : ℕ) where
 
   abbrev told : Told (Unit {0})
   told = judged (mix_rows n cells camera room) tt
+
+  -- Too few cells, camera numbers or places: 13, whatever the camera's numbers are.
+  pub told_short : short ≡ true → refused (why 13 0) ≡ told
+  told_short e = rw e
 
   module _ (e : short ≡ false) where
     pub long_enough : (n ≤ length cells) × (n ≤ length camera) × (n ≤ room)
@@ -57,6 +61,10 @@ module _ (n : ℕ) (cells camera : List ℕ) (room : ℕ) where
     told_laid few =
         let none = all_few camera n (λ k h. rw (← taken k h) (few k (rw length-take-le h))) in
         rw (not_short, ← none, le-ltb n n (omega arith))
+
+  -- Where nothing is too short, 20 at the first number too large.
+  pub told_first : short ≡ false → (first : ℕ) → first ≡ first_too_large camera n → first < n → refused (why 20 first) ≡ told
+  told_first e first f h = rw (e, ← f, lt-ltb first n h)
 
 -- The first n places laid, and the others as they were.
 module _ (n : ℕ) (cells camera out new : List ℕ) where

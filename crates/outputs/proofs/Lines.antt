@@ -111,6 +111,22 @@ module _ (g : Registers) (video cursor : List ℕ) where
       go (given s) e = omega (arith, (picture_accepted g video cursor s e).v_most)
       go (refused w) e = omega arith
 
+  -- A line that is none comes after the last,
+  pub last_line : (k : ℕ) → k ≤ lines → length (line_at g video cursor k) ≡ 0 → k ≡ lines
+  unfolding line_at
+  last_line k h e = elim (lt_or_le k lines) [
+    | inl l ↦ absurd (let s = some_lines told k l in omega arith)
+    | inr l ↦ omega arith
+  ]
+
+  -- and one that is some before it.
+  pub more_lines : (k : ℕ) → (length (line_at g video cursor k) ≡ 0 → ⊥) → k + 1 ≤ lines
+  unfolding line_at
+  more_lines k h = elim (lt_or_le k lines) [
+    | inl l ↦ omega arith
+    | inr l ↦ absurd (h (ap length (no_more g video cursor told k l)))
+  ]
+
   -- A refusal is one line.
   pub refused_text : (w : Why) → told ≡ refused w → picture_text g video cursor ≡ refused_line w
   unfolding picture_text text_by first_lines

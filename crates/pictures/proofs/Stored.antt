@@ -1,10 +1,10 @@
 -- Laws of the bytes of cells: how many, and one cell more.
 use Prim.Native.Nat.{ℕ, suc, ◌+◌, ◌-◌, ◌*◌, ◌<◌, ◌≤◌}
-use mathlib.Core.Path.{◌≡◌, refl}
+use mathlib.Core.Path.{◌≡◌, refl, ◌∙◌}
 use mathlib.Core.List.{List, [], ◌∷◌}
 use native.Mathlib.Numerals.{add-one}
 use native.Mathlib.Omega.{arith}
-use lib.ListN.{length, get_or, drop, drop_of_length-le}
+use lib.ListN.{length, get_or, set, drop, drop_of_length-le}
 use lib.Seq.{sets, drop-cons}
 use borrow.Rule.Slice.PartMut.{put_mid}
 use Rattle.buffers.proofs.Sets.{sets_range}
@@ -47,6 +47,19 @@ guns_turn l ys cells k a h fits apart e =
       green_apart x a apart,
       blue_apart x a apart,
     )
+
+-- the same by three stores
+pub guns_stored : (l cells : List ℕ) (k r g b : ℕ) (a : Apart) → k < length cells → a ≡ apart_of (get_or cells k 0)
+    → r ≡ red a.colour → g ≡ green a.colour → b ≡ blue a.colour
+    → sets (set (set (set l (3 * k) r) (3 * k + 1) g) (3 * k + 2) b) (3 * (k + 1)) (guns_of (drop (k + 1) cells))
+    ≡ sets l (3 * k) (guns_of (drop k cells))
+unfolding guns_of
+guns_stored l cells k r g b a h apart er eg eb =
+    let x = get_or cells k 0 in
+    let p : 3 * k + 1 ≡ suc (3 * k) = omega arith in
+    let q : 3 * k + 2 ≡ suc (suc (3 * k)) = omega arith in
+    let t : 3 * (k + 1) ≡ suc (suc (suc (3 * k))) = omega arith in
+    rw (p, q, t, add-one, drop-cons cells k 0 h, er ∙ red_apart x a apart, eg ∙ green_apart x a apart, eb ∙ blue_apart x a apart)
 
 pub guns_done : (l cells : List ℕ) (i k : ℕ) → length cells ≤ k → sets l i (guns_of (drop k cells)) ≡ l
 unfolding guns_of

@@ -4,11 +4,13 @@ use mathlib.Core.Path.{◌≡◌}
 use Prim.Native.Nat.{ℕ}
 use mathlib.Core.List.{[], ◌∷◌, List}
 use seplogic.Ra.Ura.{Ura}
-use mir.Val.{Val}
+use lib.Dec.{T}
+use mir.Val.{Val, WT, has_ty}
 use base.Logic.{emp}
 use types.Logic.{Logic}
 use contract.Lifetimes.{Lfts}
 use contract.Monad.{fact}
+use denote.Laws.{Is}
 use denote.Builtin.{u32, RefMutOf}
 use denote.Signature.{plain}
 use denote.Struct.Laws as LL
@@ -76,6 +78,14 @@ reply_val = LL.val R.the_type R'.the_laws
 
 abbrev pub reply_vals : Reply → List Val
 reply_vals = LL.vals R.the_type R'.the_laws
+
+-- A queue's machine value, and a reply's, has the struct's MIR type.
+module _ {M : Type 1} {𝓤 : Ura M} (𝓛 : Logic 𝓤) where
+  pub queue_typed : (h : Queue) → Is Q.the_row h (queue_vals h) → T (has_ty Q'.mir (queue_val h)) × WT (queue_val h)
+  queue_typed h is = ((LL.lawful Q.the_type Q'.the_laws 𝓛).typed h (queue_vals h) is).0
+
+  pub reply_typed : (r : Reply) → Is R.the_row r (reply_vals r) → T (has_ty R'.mir (reply_val r)) × WT (reply_val r)
+  reply_typed r is = ((LL.lawful R.the_type R'.the_laws 𝓛).typed r (reply_vals r) is).0
 
 -- Each function on a lent queue, in every model and wherever its code runs, meets the contract of a lent function of its own meaning.
 pub record ThinMeets (M : Type 1) : Type 2 where

@@ -1,11 +1,14 @@
 -- Load and check, by its two parts: what the load refuses is never checked, and what it passes is told as the check of the loaded record tells it.
 use Prim.Native.Nat.{ℕ, ◌≤◌}
-use mathlib.Core.Path.{◌≡◌, refl, sym, ◌∙◌}
+use mathlib.Core.Path.{◌≡◌, refl, sym, ◌∙◌, ap}
 use mathlib.Core.List.{List, [], ◌∷◌, ◌++◌}
 use mathlib.Core.Logic.{◌↔◌}
 use lib.ListN.{length}
 use native.Mathlib.Omega.{arith}
-use Rattle.refusals.specs.Table.{Told, given, refused, and_then}
+use Rattle.std.specs.Prelude.{Result, Ok, Err}
+use Rattle.refusals.specs.Table.{Told, given, refused, and_then, unless_refused}
+use Rattle.refusals.specs.Refusals.{refusal, says}
+use Rattle.refusals.specs.declared.Refusal.{Refusal}
 use Rattle.refusals.proofs.Tables.{never, and_then_judged}
 use Rattle.refusals.proofs.Told.{handed_on}
 use Rattle.registers.specs.Load.{applied, load_table, load_told, leading}
@@ -88,6 +91,18 @@ module _ (g : Registers) (xs ys : List ℕ) (s : Setting) where
   accept_whole few first e =
       let p = accepted_both (applied g xs) ys s e in
       both_accepted g (xs ++ ys) s (halves_load xs ys few first p.0) (rw (applied_halves g xs ys) p.1)
+
+-- The record handed back, by what is told of the list and of the record that it leaves: as it was given on a refusal, else with the words applied.
+module _ {A : Type 0} (g : Registers) (words : List ℕ) (told : Told A) (next : Registers → Told A)
+    (follows : told ≡ and_then (load_told words) (λ _. next (applied g words))) (x : Result (Unit {0}) Refusal) (answers : says x ≡ load_told words) where
+  pub unloaded : (w : Refusal) → x ≡ Err w → (refusal w ≡ told) × (g ≡ handed_back told g words)
+  unloaded w q = let e : told ≡ refusal w = follows ∙ rw (← answers, q) in (sym e, rw e)
+
+  pub loaded : x ≡ Ok tt → (r : Registers) → r ≡ applied g words → (t : Told A) → t ≡ next r
+      → (t ≡ told) × (unless_refused t g r ≡ handed_back told g words)
+  loaded q r left t n =
+      let e : t ≡ told = n ∙ ap next left ∙ sym (follows ∙ rw (← answers, q)) in
+      (e, rw (e, left))
 
 -- the laws that the two calls stand on
 pub ruleset load_and_check = (handed_on, accept_then, checked_as_it_stands, handed_as_it_stands)

@@ -20,6 +20,11 @@ pub and_false : (b : Bool) → b && false ≡ false
 and_false true = refl
 and_false false = refl
 
+-- A test that fails adds nothing.
+pub or_false : (b : Bool) → b || false ≡ b
+or_false true = refl
+or_false false = refl
+
 pub or_and : (a b c : Bool) → (a || b) && c ≡ (a && c) || (b && c)
 or_and true true true = refl
 or_and true true false = refl

@@ -2,12 +2,16 @@
 use Prim.Native.Nat.{ℕ, ◌+◌, ◌*◌, ◌/◌, ◌<◌, ◌≤◌}
 use mathlib.Core.Path.{◌≡◌}
 use mathlib.Core.List.{List}
-use native.Mathlib.Nat.{div-mul-le_self, lt-div-mul-add}
+use native.Mathlib.Nat.{div-le_self, div-mul-le_self, lt-div-mul-add}
 use native.Mathlib.Omega.{arith}
 use lib.ListN.{length}
 use Rattle.buffers.specs.Words.{bytes_of}
 use Rattle.buffers.proofs.Words.{length_bytes}
 use Rattle.waves.specs.Head.{rate_of, head_words, wave_head}
+
+-- the rate of a frequency of one byte has few digits
+pub rate_most : (frequency : ℕ) → frequency < 256 → rate_of frequency ≤ 1000128
+rate_most f h = let d = div-le_self (1000000 + (f + 1) / 2) (f + 1) in omega (arith, d)
 
 pub length_head : (frequency words : ℕ) → length (wave_head frequency words) ≡ 44
 unfolding wave_head

@@ -1,3 +1,4 @@
 pub mod Heads
+pub mod Signed
 pub mod Stored
 pub mod Unique
