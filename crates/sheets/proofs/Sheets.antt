@@ -140,12 +140,6 @@ module _ (file : List ℕ) (p : Parts) (t : given p ≡ take_input_told file) wh
       let n : new ≡ sets o 0 (copied file) = left ∙ rw g in
       rw (input_given.1, n) (held file o (input_right file g) (omega (arith, few_words file g)))
 
-  -- as many words as were lent are left
-  pub input_room : (o new : List ℕ) → new ≡ input_leaves file o → 16384 ≤ length new → 16384 ≤ length o
-  input_room o new left room =
-      let n : new ≡ sets o 0 (copied file) = left ∙ rw input_given.0 in
-      rw (n, length-sets) at room
-
 pub input_refused : (file : List ℕ) (w : Why) → refused w ≡ take_input_told file → input_told file ≡ refused w
 input_refused file w t = go (input_told file) refl (t ∙ input_then file)
   where

@@ -4,21 +4,21 @@ use mathlib.Core.Path.{sym, ap, ◌∙◌}
 use borrow.Author.Rules.{rules}
 use Rattle.refusals.specs.Refusals.{says}
 use Rattle.sheets.specs.declared.Parts.{Parts}
-use Rattle.sheets.proofs.Sheets.{input_given, input_held, input_room}
+use Rattle.sheets.proofs.Sheets.{input_given, input_held, input_length}
 use Rattle.sheets.proofs.sheet.Sheet.of_taken.Goals as goal
 
 pub cut-requires : goal.cut-requires
 cut-requires g c =
     let told = ap says (sym c.in_ok-parts.was) ∙ c.requires.0 in
     let left = c.requires.1.0 in
-    let held = input_held g.from.0 _ told _ _ left (input_room g.from.0 _ told _ _ left (search rules)) in
+    let held = input_held g.from.0 _ told _ _ left (rw (← input_length g.from.0 _ _ left) (search rules)) in
     (held.video_first, held.cursor_first, held.sound_first, held.inside)
 
 pub returns-clause-lists : goal.returns-clause-lists
 returns-clause-lists g c =
     let told = ap says (sym c.in_ok-parts.was) ∙ c.requires.0 in
     let left = c.requires.1.0 in
-    let held = input_held g.from.0 _ told _ _ left (input_room g.from.0 _ told _ _ left (search rules)) in
+    let held = input_held g.from.0 _ told _ _ left (rw (← input_length g.from.0 _ _ left) (search rules)) in
     let lists = c.cut.ensures in
     record {
       taken = (input_given g.from.0 _ told).0;
